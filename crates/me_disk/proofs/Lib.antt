@@ -1,0 +1,5 @@
+pub mod Does
+pub mod Log
+pub mod Runs
+pub mod Sound
+pub mod Holds
