@@ -1,0 +1,345 @@
+-- The new movie is read as it was made.
+use Rattle.std.proofs.Common.{◌≡◌, ℕ, ◌+◌, ◌-◌, ◌^◌, ◌<◌, ◌≤◌, Bool, true, false, cond, ltb, leb, List, [], ◌∷◌, ◌++◌, length, map, drop, replicate, refl, sym, ap, subst, ◌∙◌, arith}
+use Rattle.std.specs.Prelude.{◌&&◌, ◌||◌, codes}
+use Rattle.std.specs.List.{flat_map, AllByRecursion}
+use Rattle.std.proofs.lemmas.Bool.{cond-true, and_parts, ltb-true, leb-false}
+use Rattle.std.proofs.lemmas.List.{length-append, length-drop, nil_from_length}
+use Rattle.container_model.specs.Chunk.{to_end, header_bytes, pad_len, Chunk, spell, spell_all, Run, too_short, ends, Stands, Reads, Head}
+use Rattle.container_model.specs.Sizes.{Level, top, inside, atom_front}
+use Rattle.container_model.specs.Splice.{shift}
+use Rattle.container_model.specs.Units.{Cell, was, live, padded, Piece, copied, replaced, shut, units, lay, solid, solids, unit_bytes}
+use Rattle.container_model.specs.Deep.{Whole}
+use Rattle.container_model.specs.Items.{Item, put_all, edit_carrier}
+use Rattle.container_model.proofs.Codec.{IsBytes, chunks_spelled, chunks_read, chunks_joined, as_many}
+use Rattle.container_model.proofs.Atoms.{atoms_give_back}
+use Rattle.container_model.proofs.Deep.{Alike, bytes_of}
+use Rattle.container_model.proofs.Read.{Atom, told_of, atoms_read, atoms_before, atoms_again, atoms_and, atom_sized, atom_stands_sized, atom_behind}
+use Rattle.container_model.proofs.Items.{same_true}
+use Rattle.container_model.proofs.Units.{AllCells, lay_all}
+use Rattle.mov_model.specs.Atoms.{moov, is, format, is_padding, cell_by, cell_of, atom, atoms_in}
+use Rattle.mov_model.specs.User.{Text, user_items, udta}
+use Rattle.mov_model.specs.Tables.{relocated}
+use Rattle.mov_model.specs.Movie.{Movie, split_by, split, all_atoms, spell_movie, top_run, movie_of, padding, fill, past_gaps, hanging, has_carrier, first_cell, fresh, carry_by, carried, pieces_of, is_open, rest_behind, whole_pieces, ends_file, edit_cuts, padding_behind, new_kids, new_movie}
+use Rattle.mov_model.specs.Edited.{has_id, first_user, Supported, Fits}
+use Rattle.mov_model.proofs.Tables.{relocated_other, relocated_alike}
+use Rattle.mov_model.proofs.User.{atom_made}
+use Rattle.mov_model.proofs.Cells.{padding_no_udta, all_read, all_new, has_solid}
+use Rattle.mov_model.proofs.Laid.{hanging_none}
+use Rattle.mov_model.proofs.Parts.{udta_no_trak}
+
+-- ---- moov among the atoms of the file
+
+pub split_whole : (cs : List Chunk) (left : List ℕ) → has_id (codes "moov") cs ≡ true
+    → (all_atoms (split cs left) ≡ cs) × ((split cs left).left ≡ left) × (has_id (codes "moov") (split cs left).before ≡ false)
+split_whole [] left h = absurd cc
+split_whole (c ∷ cs) left h = go (is c (codes "moov")) refl h (split_whole cs left)
+  where
+    go : (t : Bool) → is c (codes "moov") ≡ t → (t || has_id (codes "moov") cs) ≡ true
+        → (has_id (codes "moov") cs ≡ true → (all_atoms (split cs left) ≡ cs) × ((split cs left).left ≡ left) × (has_id (codes "moov") (split cs left).before ≡ false))
+        → (all_atoms (split_by c cs left (split cs left) t) ≡ c ∷ cs) × ((split_by c cs left (split cs left) t).left ≡ left) × (has_id (codes "moov") (split_by c cs left (split cs left) t).before ≡ false)
+    go true e h again = (refl, refl, refl)
+    go false e h again = let r = again h in (ap (λ (x : List Chunk). c ∷ x) r.0, r.1, rw e r.2)
+
+pub split_again : (a : List Chunk) (c : Chunk) (b : List Chunk) (left : List ℕ) → has_id (codes "moov") a ≡ false → is c (codes "moov") ≡ true
+    → split (a ++ c ∷ b) left ≡ record { before = a; movie = c; behind = b; left = left }
+split_again [] c b left n e = rw e refl
+split_again (d ∷ a) c b left n e = go (is d (codes "moov")) n (split_again a c b left)
+  where
+    go : (t : Bool) → (t || has_id (codes "moov") a) ≡ false → (has_id (codes "moov") a ≡ false → is c (codes "moov") ≡ true → split (a ++ c ∷ b) left ≡ record { before = a; movie = c; behind = b; left = left })
+        → split_by d (a ++ c ∷ b) left (split (a ++ c ∷ b) left) t
+        ≡ record { before = d ∷ a; movie = c; behind = b; left = left }
+    go true n again = absurd cc
+    go false n again = rw (again n e) refl
+
+pub reads_past : (cs : List Chunk) (left : List ℕ) → Reads atom_front top cs left → Reads atom_front top (past_gaps cs) left
+reads_past [] left r = r
+reads_past (c ∷ cs) left r = go (is_padding c.id) (reads_past cs left)
+  where
+    next : Reads atom_front top cs left
+    next =
+        let t = told_of top r.0 (spell c ++ (spell_all cs ++ left)) c.id (c.body ++ (c.pad ++ (spell_all cs ++ left))) c.form (length c.body) r.1.header_read in
+        subst (λ (x : Level). Reads atom_front x cs left) t.0 r.2
+
+    go : (t : Bool) → (Reads atom_front top cs left → Reads atom_front top (past_gaps cs) left) → Reads atom_front top (cond t (past_gaps cs) (c ∷ cs)) left
+    go true again = again next
+    go false again = r
+
+-- ---- padding
+
+padding_all : (P : Chunk → Type 0) → ((body : List ℕ) → length body + 8 < 2 ^ 32 → P (atom (codes "free") body)) → (slot : List ℕ) (s : ℕ) → AllByRecursion P (padding slot s)
+padding_all P good slot s = go (leb (length slot) s)
+  where
+    one : (t : Bool) → (leb 8 (length slot - s) && ltb (length slot - s) (2 ^ 32)) ≡ t → P (atom (codes "free") (cond t (drop (s + 8) slot) []))
+    one true e = let p = and_parts (leb 8 (length slot - s)) (ltb (length slot - s) (2 ^ 32)) e in good (drop (s + 8) slot) (omega (arith, ltb-true _ _ p.1, Rattle.std.proofs.lemmas.Bool.leb-true _ _ p.0, length-drop (s + 8) slot))
+    one false e = good [] (omega arith)
+
+    go : (t : Bool) → AllByRecursion P (cond t [] (atom (codes "free") (cond (leb 8 (length slot - s) && ltb (length slot - s) (2 ^ 32)) (drop (s + 8) slot) []) ∷ []))
+    go true = tt
+    go false = (one (leb 8 (length slot - s) && ltb (length slot - s) (2 ^ 32)) refl, tt)
+
+pub fill_all : (P : Chunk → Type 0) → ((body : List ℕ) → length body + 8 < 2 ^ 32 → P (atom (codes "free") body)) → (o last : Bool) (slot : List ℕ) (s : ℕ) → AllByRecursion P (fill o last slot s)
+fill_all P good o last slot s = go (o && last)
+  where
+    go : (t : Bool) → AllByRecursion P (cond t [] (padding slot s))
+    go true = tt
+    go false = padding_all P good slot s
+
+pub hanging_all : (P : Chunk → Type 0) → ((body : List ℕ) → length body + 8 < 2 ^ 32 → P (atom (codes "free") body)) → (o : Bool) (ps : List Piece) → AllByRecursion P (hanging (fill o) ps)
+hanging_all P good o [] = tt
+hanging_all P good o (copied c ∷ ps) = hanging_all P good o ps
+hanging_all P good o (replaced lead slot now true ∷ ps) = fill_all P good o true slot (length (unit_bytes lead now))
+hanging_all P good o (replaced lead slot now false ∷ ps) = hanging_all P good o ps
+
+-- ---- an atom of moov that is read, and that a relocation keeps in length
+
+pub record Kid (f : ℕ → ℕ) (c : Chunk) : Type 0 where
+  pub read : Atom inside c
+  pub alike : Alike c (relocated f c)
+
+module _ (f : ℕ → ℕ) where
+  same_alike : (c : Chunk) → relocated f c ≡ c → Alike c (relocated f c)
+  same_alike c e = record { form_is = ap (λ (x : Chunk). x.form) e; id_is = ap (λ (x : Chunk). x.id) e; len_is = ap (λ (x : Chunk). length x.body) e; pad_is = ap (λ (x : Chunk). x.pad) e }
+
+  kid_free : (body : List ℕ) → length body + 8 < 2 ^ 32 → Kid f (atom (codes "free") body)
+  kid_free body lt = record { read = atom_made inside (codes "free") body refl lt; alike = same_alike (atom (codes "free") body) (relocated_other f (atom (codes "free") body) refl) }
+
+  kid_padded : (c : Chunk) → Kid f c → Kid f (padded c)
+  kid_padded c k =
+      let none : replicate (pad_len c.form (length c.body)) 0 ≡ c.pad = rw (k.read.pad_none, k.read.no_pad) refl in
+      let same : padded c ≡ c = ap (λ (x : List ℕ). record c { pad = x }) none in
+      rw same k
+
+  kid_udta : (c : Chunk) (body : List ℕ) → udta.is c ≡ true → Kid f c → length body + 16 < 2 ^ 32 → Kid f (record c { body = body })
+  kid_udta c body u k lt = record { read = atom_sized inside c body k.read lt; alike = same_alike (record c { body = body }) (relocated_other f (record c { body = body }) (udta_no_trak c u)) }
+
+  kid_alike : (c d : Chunk) → Alike c d → Atom inside c → Atom inside d
+  kid_alike c d a h =
+      let head : Head atom_front inside inside d = λ after. rw (a.form_is, a.id_is, a.len_is) (h.head after) in
+      record { head = head; no_pad = a.pad_is ∙ h.no_pad; pad_none = rw (a.form_is, a.len_is) h.pad_none; id_len = rw a.id_is h.id_len; short_or_long = rw a.form_is h.short_or_long }
+
+  kids_moved : (cs : List Chunk) → AllByRecursion (Kid f) cs → AllByRecursion (Atom inside) (map (relocated f) cs)
+  kids_moved [] h = tt
+  kids_moved (c ∷ cs) h = (kid_alike c (relocated f c) h.0.alike h.0.read, kids_moved cs h.1)
+
+  kids_alike : (cs : List Chunk) → AllByRecursion (Kid f) cs → AllByRecursion (λ c. Alike c (relocated f c)) cs
+  kids_alike [] h = tt
+  kids_alike (c ∷ cs) h = (h.0.alike, kids_alike cs h.1)
+
+-- ---- the first user data among what was read
+
+all_first_read : (P : Chunk → Type 0) (g : Chunk → Chunk) (cs : List Chunk) → AllByRecursion P cs → AllByRecursion (λ c. P (g c)) (first_user cs) → AllCells P (first_cell udta g (map cell_of cs))
+all_first_read P g [] h w = tt
+all_first_read P g (c ∷ cs) h w = go (is_padding c.id) refl (all_first_read P g cs h.1)
+  where
+    kept_one : (t : Bool) → AllByRecursion (λ c. P (g c)) (cond t (c ∷ []) (first_user cs)) → (AllByRecursion (λ c. P (g c)) (first_user cs) → AllCells P (first_cell udta g (map cell_of cs)))
+        → AllCells P (cond t (Rattle.container_model.specs.Units.edited (c ∷ []) (g c ∷ []) ∷ map cell_of cs) (Rattle.container_model.specs.Units.kept c ∷ first_cell udta g (map cell_of cs)))
+    kept_one true w again = ((w.0, tt), Rattle.mov_model.proofs.Cells.all_read P cs h.1)
+    kept_one false w again = (h.0, again w)
+
+    go : (t : Bool) → is_padding c.id ≡ t → (AllByRecursion (λ c. P (g c)) (first_user cs) → AllCells P (first_cell udta g (map cell_of cs))) → AllCells P (first_cell udta g (cell_by c t ∷ map cell_of cs))
+    go true e again = let no : udta.is c ≡ false = padding_no_udta c e in let w2 : AllByRecursion (λ c. P (g c)) (first_user cs) = rw no at w in (h.0, again w2)
+    go false e again = kept_one (udta.is c) w again
+
+abbrev pub strip : Chunk → Chunk
+strip c = record c { pad = [] }
+
+-- the first user data but for its pad
+first_solid : (cs : List Chunk) → first_user (solids is_padding cs) ≡ map strip (first_user cs)
+first_solid [] = refl
+first_solid (c ∷ cs) = go (is_padding c.id) refl (first_solid cs)
+  where
+    kept_one : (t : Bool) → first_user (solids is_padding cs) ≡ map strip (first_user cs) → cond t (record c { pad = [] } ∷ []) (first_user (solids is_padding cs)) ≡ map strip (cond t (c ∷ []) (first_user cs))
+    kept_one true again = refl
+    kept_one false again = again
+
+    go : (t : Bool) → is_padding c.id ≡ t → first_user (solids is_padding cs) ≡ map strip (first_user cs)
+        → first_user (cond t [] (record c { pad = [] } ∷ []) ++ solids is_padding cs) ≡ map strip (cond (udta.is c) (c ∷ []) (first_user cs))
+    go true e again = rw (padding_no_udta c e) again
+    go false e again = kept_one (udta.is c) again
+
+all_strip : (Q : Chunk → Type 0) → ((c : Chunk) → Q (strip c) → Q c) → (cs : List Chunk) → AllByRecursion Q (map strip cs) → AllByRecursion Q cs
+all_strip Q f [] h = tt
+all_strip Q f (c ∷ cs) h = (f c h.0, all_strip Q f cs h.1)
+
+-- what is known of the first user data and of all
+first_both : (P Q : Chunk → Type 0) (g : Chunk → Chunk) → ((c : Chunk) → udta.is c ≡ true → P c → Q c → P (g c)) → (cs : List Chunk) → AllByRecursion P cs → AllByRecursion Q (first_user cs) → AllByRecursion (λ c. P (g c)) (first_user cs)
+first_both P Q g f [] h w = tt
+first_both P Q g f (c ∷ cs) h w = go (udta.is c) refl w (first_both P Q g f cs h.1)
+  where
+    go : (t : Bool) → udta.is c ≡ t → AllByRecursion Q (cond t (c ∷ []) (first_user cs)) → (AllByRecursion Q (first_user cs) → AllByRecursion (λ c. P (g c)) (first_user cs)) → AllByRecursion (λ c. P (g c)) (cond t (c ∷ []) (first_user cs))
+    go true u w again = (f c u h.0 w.0, tt)
+    go false u w again = again w
+
+pub whole_kids : (cs : List Chunk) → AllByRecursion (Whole format 5 moov) (solids is_padding cs) → AllByRecursion (Whole format 5 moov) cs
+unfolding Whole
+whole_kids [] h = tt
+whole_kids (c ∷ cs) h = go (is_padding c.id) refl h (whole_kids cs)
+  where
+    padding_whole : is_padding c.id ≡ true → Whole format 5 moov c
+    padding_whole e = no_track (is c (codes "trak")) refl
+      where
+        no_track : (t : Bool) → is c (codes "trak") ≡ t → Whole format 5 moov c
+        no_track true i = let no : is_padding c.id ≡ false = rw (same_true c.id (codes "trak") i) refl in absurd cc
+        no_track false i = rw i tt
+
+    go : (t : Bool) → is_padding c.id ≡ t → AllByRecursion (Whole format 5 moov) (cond t [] (record c { pad = [] } ∷ []) ++ solids is_padding cs)
+        → (AllByRecursion (Whole format 5 moov) (solids is_padding cs) → AllByRecursion (Whole format 5 moov) cs) → AllByRecursion (Whole format 5 moov) (c ∷ cs)
+    go true e h again = (padding_whole e, again h)
+    go false e h again = (h.0, again h.1)
+
+module _ (f : ℕ → ℕ) where
+  kids_both : (cs : List Chunk) → AllByRecursion (Atom inside) cs → AllByRecursion (λ c. IsBytes c.body) cs → AllByRecursion (Whole format 5 moov) cs → AllByRecursion (Kid f) cs
+  kids_both [] h b w = tt
+  kids_both (c ∷ cs) h b w = (record { read = h.0; alike = relocated_alike f c w.0 b.0 }, kids_both cs h.1 b.1 w.1)
+
+  fresh_kids : (items : List Chunk) → AllByRecursion (λ c. length c.body ≤ 2 ^ 24) (fresh udta items) → AllByRecursion (Kid f) (fresh udta items)
+  fresh_kids [] h = tt
+  fresh_kids (c ∷ cs) h =
+      let u = udta.fresh (c ∷ cs) in
+      (record { read = atom_made inside (codes "udta") u.body refl (omega (arith, h.0)); alike = same_alike f u (relocated_other f u refl) }, tt)
+
+  carried_fine : (e : List (Item Text)) (cs : List Chunk) → AllByRecursion (Kid f) cs → AllByRecursion (λ c. Kid f (edit_carrier udta user_items e c)) (first_user cs)
+      → (has_carrier udta (flat_map live (map cell_of cs)) ≡ false → AllByRecursion (Kid f) (fresh udta (put_all user_items e []))) → AllCells (Kid f) (carried udta user_items e (map cell_of cs))
+  carried_fine [] cs h w n = all_read (Kid f) cs h
+  carried_fine (i ∷ e) cs h w n = go (has_carrier udta (flat_map live (map cell_of cs))) refl
+    where
+      go : (t : Bool) → has_carrier udta (flat_map live (map cell_of cs)) ≡ t → AllCells (Kid f) (carry_by udta user_items (i ∷ e) (map cell_of cs) t)
+      go true e2 = all_first_read (Kid f) (edit_carrier udta user_items (i ∷ e)) cs h w
+      go false e2 = all_new (Kid f) (fresh udta (put_all user_items (i ∷ e) [])) (map cell_of cs) (n e2) (all_read (Kid f) cs h)
+
+no_atoms : (cs : List Chunk) (left : List ℕ) → spell_all cs ++ left ≡ [] → cs ≡ []
+no_atoms [] left n = refl
+no_atoms (c ∷ cs) left n = absurd (omega (arith, ap length n, as_many (c ∷ cs), length-append (spell_all (c ∷ cs)) left))
+
+-- ---- what is known of a supported movie
+
+module _ (o : List ℕ) (bytes : IsBytes o) (sup : Supported o) where
+  abbrev pub mov : Movie
+  mov = movie_of o
+
+  whole : (all_atoms mov ≡ (top_run o).chunks) × (mov.left ≡ (top_run o).left) × (has_id (codes "moov") mov.before ≡ false)
+  whole = split_whole (top_run o).chunks (top_run o).left sup.has_moov
+
+  pub file_bytes : spell_movie mov ≡ o
+  file_bytes = rw (whole.0, whole.1) (chunks_joined atom_front atoms_give_back top o bytes)
+
+  top_bytes : IsBytes (spell_all (mov.before ++ mov.movie ∷ mov.behind) ++ mov.left)
+  top_bytes = rw file_bytes bytes
+
+  top_reads : Reads atom_front top (mov.before ++ mov.movie ∷ mov.behind) mov.left
+  top_reads = rw (whole.0, whole.1) (chunks_read atom_front atoms_give_back top o bytes sup.atoms_end)
+
+  before_read : AllByRecursion (Atom top) mov.before
+  before_read = (atoms_before mov.before mov.movie mov.behind mov.left top_bytes top_reads).0
+
+  at_moov : Stands atom_front top top mov.movie (spell_all mov.behind ++ mov.left) × Reads atom_front top mov.behind mov.left × (mov.movie.pad ≡ []) × (mov.movie.form ≡ to_end → spell_all mov.behind ++ mov.left ≡ [])
+  at_moov = let r = atoms_before mov.before mov.movie mov.behind mov.left top_bytes top_reads in atom_behind mov.movie mov.behind mov.left r.2 r.1
+
+  moov_bytes : IsBytes mov.movie.body
+  moov_bytes = (bytes_of (mov.movie ∷ mov.behind) mov.left (atoms_before mov.before mov.movie mov.behind mov.left top_bytes top_reads).2).0
+
+  abbrev pub kids : List Chunk
+  kids = (atoms_in mov.movie).chunks
+
+  abbrev pub moov_left : List ℕ
+  moov_left = (atoms_in mov.movie).left
+
+  pub kids_joined : spell_all kids ++ moov_left ≡ mov.movie.body
+  kids_joined = chunks_joined atom_front atoms_give_back inside mov.movie.body moov_bytes
+
+  kids_all_bytes : IsBytes (spell_all kids ++ moov_left)
+  kids_all_bytes = rw kids_joined moov_bytes
+
+  pub kids_bytes : AllByRecursion (λ c. IsBytes c.body) kids
+  kids_bytes = bytes_of kids moov_left kids_all_bytes
+
+  pub kids_read : AllByRecursion (Atom inside) kids × (atom_front inside moov_left ≡ too_short)
+  kids_read = atoms_read inside kids moov_left (λ e. absurd cc) kids_all_bytes (chunks_read atom_front atoms_give_back inside mov.movie.body moov_bytes sup.movie.atoms_end)
+
+  pub moov_padless : mov.movie.pad ≡ []
+  moov_padless = at_moov.2
+
+  -- ---- the edit
+
+  module _ (e : List (Item Text)) (fits : Fits mov e) where
+    abbrev pub move : ℕ → ℕ
+    move = shift (edit_cuts mov e)
+
+    kids_fine : AllByRecursion (Kid move) kids
+    kids_fine = kids_both move kids kids_read.0 kids_bytes (whole_kids kids sup.movie.tracks_end)
+
+    -- the edited user data, or new user data, is read again
+    user_kid : AllByRecursion (λ c. Kid move (edit_carrier udta user_items e c)) (first_user kids)
+    user_kid =
+        first_both (Kid move) (λ c. length (edit_carrier udta user_items e c).body ≤ 2 ^ 24) (edit_carrier udta user_items e)
+        (λ c u k lt. kid_udta move c (edit_carrier udta user_items e c).body u k (omega (arith, lt))) kids kids_fine
+        (all_strip (λ c. length (edit_carrier udta user_items e c).body ≤ 2 ^ 24) (λ c h. h) (first_user kids) (rw (first_solid kids) at fits.user_small))
+
+    fresh_kid : has_carrier udta (flat_map live (map cell_of kids)) ≡ false → AllByRecursion (Kid move) (fresh udta (put_all user_items e []))
+    fresh_kid none = fresh_kids move (put_all user_items e []) (fits.fresh_small (sym (has_solid kids) ∙ none))
+
+    cells_fine : AllCells (Kid move) (carried udta user_items e (map cell_of kids))
+    cells_fine = carried_fine move e kids kids_fine user_kid fresh_kid
+
+    laid_fine : AllByRecursion (Kid move) (lay (fill (is_open mov e)) (pieces_of mov e))
+    laid_fine =
+        lay_all (Kid move) (fill (is_open mov e)) (record { on_pads = λ c k. kid_padded move c k; on_fill = λ last slot s. fill_all (Kid move) (kid_free move) (is_open mov e) last slot s }) shut
+        (carried udta user_items e (map cell_of kids)) tt cells_fine
+
+    pub new_kids_read : AllByRecursion (Atom inside) (new_kids mov e)
+    new_kids_read = kids_moved move (lay (fill (is_open mov e)) (pieces_of mov e)) laid_fine
+
+    pub laid_alike : AllByRecursion (λ c. Alike c (relocated move c)) (lay (fill (is_open mov e)) (pieces_of mov e))
+    laid_alike = kids_alike move (lay (fill (is_open mov e)) (pieces_of mov e)) laid_fine
+
+    abbrev pub now : Movie
+    now = new_movie mov e
+
+    -- moov is read again
+    pub moov_again : atoms_in now.movie ≡ record { chunks = new_kids mov e; stop = ends; left = moov_left }
+    moov_again = chunks_spelled atom_front inside (new_kids mov e) moov_left (atoms_again inside (new_kids mov e) moov_left new_kids_read kids_read.1)
+
+    behind_read : Reads atom_front top now.behind now.left
+    behind_read =
+        atoms_and top (padding_behind mov e) (rest_behind mov e) mov.left (open_padding (is_open mov e)) (open_rest (is_open mov e))
+      where
+        open_padding : (t : Bool) → AllByRecursion (Atom top) (cond t (hanging (fill (ends_file mov e)) (whole_pieces mov e)) [])
+        open_padding true = hanging_all (Atom top) (λ body lt. atom_made top (codes "free") body refl lt) (ends_file mov e) (whole_pieces mov e)
+        open_padding false = tt
+
+        open_rest : (t : Bool) → Reads atom_front top (cond t (past_gaps mov.behind) mov.behind) mov.left
+        open_rest true = reads_past mov.behind mov.left at_moov.1
+        open_rest false = at_moov.1
+
+    -- behind a moov to the end of the file is nothing
+    none_behind : mov.movie.form ≡ to_end → spell_all now.behind ++ now.left ≡ []
+    none_behind t =
+        let n = at_moov.3 t in
+        let nil : mov.behind ≡ [] = no_atoms mov.behind mov.left n in
+        let none : mov.left ≡ [] = nil_from_length mov.left (omega (arith, ap length n, length-append (spell_all mov.behind) mov.left)) in
+        go (is_open mov e) refl nil none
+      where
+        go : (t : Bool) → is_open mov e ≡ t → mov.behind ≡ [] → mov.left ≡ [] → spell_all now.behind ++ now.left ≡ []
+        go true i nil none =
+            let rest : rest_behind mov e ≡ [] = rw (i, nil) refl in
+            let last : ends_file mov e ≡ true = rw (i, nil, none) refl in
+            let pad : padding_behind mov e ≡ []
+            = cond-true (is_open mov e) (hanging (fill (ends_file mov e)) (whole_pieces mov e)) [] i ∙ ap (λ (b : Bool). hanging (fill b) (whole_pieces mov e)) last ∙ hanging_none (whole_pieces mov e) in
+            rw (pad, rest, none) refl
+        go false i nil none =
+            let rest : rest_behind mov e ≡ [] = rw (i, nil) refl in
+            let pad : padding_behind mov e ≡ [] = rw i refl in
+            rw (pad, rest, none) refl
+
+    new_small : length now.movie.body + 16 < 2 ^ 32
+    new_small = omega (arith, fits.movie_small, length-append (header_bytes now.movie.form now.movie.id (length now.movie.body)) (now.movie.body ++ now.movie.pad), length-append now.movie.body now.movie.pad)
+
+    pub file_again : top_run (spell_movie now) ≡ record { chunks = all_atoms now; stop = ends; left = now.left }
+    file_again =
+        let stands = atom_stands_sized mov.movie (spell_all mov.behind ++ mov.left) now.movie.body (spell_all now.behind ++ now.left) at_moov.0 new_small none_behind in
+        chunks_spelled atom_front top (all_atoms now) now.left (atoms_and top mov.before (now.movie ∷ now.behind) now.left before_read (top, stands, behind_read))
+
+    pub movie_again : movie_of (spell_movie now) ≡ now
+    movie_again =
+        ap (λ (r : Run). split r.chunks r.left) file_again
+        ∙ split_again mov.before now.movie now.behind now.left whole.2 (rw sup.movie.is_moov refl)

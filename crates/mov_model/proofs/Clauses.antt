@@ -1,0 +1,293 @@
+-- The clauses of the edit of a movie.
+use Rattle.std.proofs.Common.{◌≡◌, ℕ, ◌+◌, ◌-◌, ◌^◌, ◌<◌, ◌≤◌, Bool, true, false, cond, List, [], ◌∷◌, ◌++◌, length, map, Option, Some, refl, sym, ap, subst, ◌∙◌, append_assoc, arith}
+use Rattle.std.specs.Prelude.{◌&&◌, codes}
+use Rattle.std.specs.Str.{bytes_eq}
+use Rattle.std.specs.List.{flat_map, AllByRecursion}
+use Rattle.std.proofs.lemmas.Bool.{and_parts}
+use Rattle.std.proofs.lemmas.List.{length-append}
+use Rattle.std.proofs.lemmas.List.Concat.{flat_map-append}
+use Rattle.container_model.specs.Chunk.{Form, riff, wide, short, long, to_end, header_bytes, Chunk, spell, spell_all, Run}
+use Rattle.container_model.specs.Units.{Piece, copied, replaced, shut, lay, solid, solids, unit_bytes}
+use Rattle.container_model.specs.Deep.{Whole}
+use Rattle.container_model.specs.Items.{Item, is_nil, values, updated}
+use Rattle.container_model.proofs.Codec.{IsBytes}
+use Rattle.container_model.proofs.Deep.{all_len}
+use Rattle.container_model.proofs.Items.{same_true, values_after}
+use Rattle.container_model.proofs.Units.{units_old, units_bring, units_solids, FillsWithPadding, BringsPad}
+use Rattle.container_model.proofs.Places.{old_length, before_all, before_stays, past_moves}
+use Rattle.mov_model.specs.Atoms.{moov, is, format, is_padding, cell_of, atom, atoms_in}
+use Rattle.mov_model.specs.User.{Text, user_items, udta}
+use Rattle.mov_model.specs.Tables.{FitsRows, relocated, tables, places}
+use Rattle.mov_model.specs.Movie.{Movie, all_atoms, padding, fill, gaps_of, past_gaps, ends_open, grown, hanging, carried, edited_chunks, pieces_of, is_open, slot_behind, rest_behind, whole_pieces, ends_file, kids_at, edit_cuts, padding_behind, new_kids}
+use Rattle.mov_model.specs.Edited.{parts, first_items, first_user, Node, nodes, leaf_of, Kept, kept_in, placed, is_mdat, held, tail_of, Pieces, pieces_by, track_pieces, track_of, tracks, pieces_in, IsHeld, TrackFine, Supported, Fits, UserItems}
+use Rattle.mov_model.proofs.Tables.{moved_table, relocated_id, relocated_pad, relocated_tables, places_moved, samples_moved}
+use Rattle.mov_model.proofs.Held.{NoMdat, held_moves}
+use Rattle.mov_model.proofs.Cells.{was_read, gaps_read, was_carried, gaps_carried, solids_carried, solids_map}
+use Rattle.mov_model.proofs.Laid.{last_units, grown_old, grown_brings, grown_new}
+use Rattle.mov_model.proofs.Parts.{KidWhole, UserWhole, edited_relocated, first_user_relocated, nodes_relocated, tracks_relocated, items_all, nodes_all, tracks_all}
+use Rattle.mov_model.proofs.Again.{mov, kids, kids_joined, kids_bytes, moov_padless, moov_left, move, now, laid_alike, moov_again, movie_again}
+
+-- ---- padding is not looked at
+
+pub fill_nothing : (o : Bool) → FillsWithPadding is_padding (fill o)
+fill_nothing o last slot s = go (o && last)
+  where
+    none : (t : Bool) (body : List ℕ) → solids is_padding (cond t [] (atom (codes "free") body ∷ [])) ≡ []
+    none true body = refl
+    none false body = refl
+
+    go : (t : Bool) → solids is_padding (cond t [] (padding slot s)) ≡ []
+    go true = refl
+    go false = none (Rattle.std.proofs.Common.leb (length slot) s) _
+
+hanging_nothing : (o : Bool) (ps : List Piece) → solids is_padding (hanging (fill o) ps) ≡ []
+hanging_nothing o [] = refl
+hanging_nothing o (copied c ∷ ps) = hanging_nothing o ps
+hanging_nothing o (replaced lead slot new true ∷ ps) = fill_nothing o true slot (length (unit_bytes lead new))
+hanging_nothing o (replaced lead slot _ false ∷ ps) = hanging_nothing o ps
+
+past_nothing : (cs : List Chunk) → solids is_padding (past_gaps cs) ≡ solids is_padding cs
+past_nothing [] = refl
+past_nothing (c ∷ cs) = go (is_padding c.id) refl (past_nothing cs)
+  where
+    go : (t : Bool) → is_padding c.id ≡ t → solids is_padding (past_gaps cs) ≡ solids is_padding cs → solids is_padding (cond t (past_gaps cs) (c ∷ cs)) ≡ cond t [] (record c { pad = [] } ∷ []) ++ solids is_padding cs
+    go true e again = again
+    go false e again = rw e refl
+
+pub behind_solids : (m : Movie) (e : List (Item Text)) → solids is_padding (padding_behind m e ++ rest_behind m e) ≡ solids is_padding m.behind
+behind_solids m e = flat_map-append (solid is_padding) (padding_behind m e) (rest_behind m e) ∙ rw (one (is_open m e), two (is_open m e)) refl
+  where
+    one : (t : Bool) → solids is_padding (cond t (hanging (fill (ends_file m e)) (whole_pieces m e)) []) ≡ []
+    one true = hanging_nothing (ends_file m e) (whole_pieces m e)
+    one false = refl
+
+    two : (t : Bool) → solids is_padding (cond t (past_gaps m.behind) m.behind) ≡ solids is_padding m.behind
+    two true = past_nothing m.behind
+    two false = refl
+
+-- ---- what is known of parts
+
+pub all_solids : (Q : Chunk → Type 0) → ((c : Chunk) → Q c → Q (record c { pad = [] })) → (cs : List Chunk) → AllByRecursion Q cs → AllByRecursion Q (solids is_padding cs)
+all_solids Q f [] h = tt
+all_solids Q f (c ∷ cs) h = go (is_padding c.id) (all_solids Q f cs h.1)
+  where
+    go : (t : Bool) → AllByRecursion Q (solids is_padding cs) → AllByRecursion Q (cond t [] (record c { pad = [] } ∷ []) ++ solids is_padding cs)
+    go true again = again
+    go false again = (f c h.0, again)
+
+pub all_and : (P Q R : Chunk → Type 0) → ((c : Chunk) → P c → Q c → R c) → (cs : List Chunk) → AllByRecursion P cs → AllByRecursion Q cs → AllByRecursion R cs
+all_and P Q R f [] h g = tt
+all_and P Q R f (c ∷ cs) h g = (f c h.0 g.0, all_and P Q R f cs h.1 g.1)
+
+pub all_first_user : (P : Chunk → Type 0) (cs : List Chunk) → AllByRecursion P cs → AllByRecursion P (first_user cs)
+all_first_user P [] h = tt
+all_first_user P (c ∷ cs) h = go (udta.is c) (all_first_user P cs h.1)
+  where
+    go : (t : Bool) → AllByRecursion P (first_user cs) → AllByRecursion P (cond t (c ∷ []) (first_user cs))
+    go true again = (h.0, tt)
+    go false again = again
+
+pub all_tracks : (P : Chunk → Type 0) (cs : List Chunk) → AllByRecursion P cs → AllByRecursion P (flat_map track_of cs)
+all_tracks P [] h = tt
+all_tracks P (c ∷ cs) h = go (is c (codes "trak")) (all_tracks P cs h.1)
+  where
+    go : (t : Bool) → AllByRecursion P (flat_map track_of cs) → AllByRecursion P (cond t (c ∷ []) [] ++ flat_map track_of cs)
+    go true again = (h.0, again)
+    go false again = again
+
+-- ---- lengths
+
+pub header_len : (form : Form) (id : List ℕ) (n k : ℕ) → length (header_bytes form id n) ≡ length (header_bytes form id k)
+header_len riff id n k = omega (arith, length-append id (Rattle.std.specs.Int.to_le_bytes Rattle.std.specs.Int.w32 n), length-append id (Rattle.std.specs.Int.to_le_bytes Rattle.std.specs.Int.w32 k))
+header_len wide id n k = refl
+header_len short id n k = refl
+header_len long id n k =
+    omega (
+      arith,
+      length-append id (Rattle.std.specs.Int.to_be_bytes Rattle.std.specs.Int.w64 (n + 16)),
+      length-append id (Rattle.std.specs.Int.to_be_bytes Rattle.std.specs.Int.w64 (k + 16)),
+      length-append (Rattle.std.specs.Int.to_be_bytes Rattle.std.specs.Int.w32 1) (id ++ Rattle.std.specs.Int.to_be_bytes Rattle.std.specs.Int.w64 (n + 16)),
+      length-append (Rattle.std.specs.Int.to_be_bytes Rattle.std.specs.Int.w32 1) (id ++ Rattle.std.specs.Int.to_be_bytes Rattle.std.specs.Int.w64 (k + 16)),
+    )
+header_len to_end id n k = refl
+
+pub gaps_split : (cs : List Chunk) → gaps_of cs ++ past_gaps cs ≡ cs
+gaps_split [] = refl
+gaps_split (c ∷ cs) = go (is_padding c.id) (gaps_split cs)
+  where
+    go : (t : Bool) → gaps_of cs ++ past_gaps cs ≡ cs → cond t (c ∷ gaps_of cs) [] ++ cond t (past_gaps cs) (c ∷ cs) ≡ c ∷ cs
+    go true again = ap (λ (x : List Chunk). c ∷ x) again
+    go false again = refl
+
+padding_no_mdat : (c : Chunk) → is_padding c.id ≡ true → is_mdat c ≡ false
+padding_no_mdat c e = go (is_mdat c) refl
+  where
+    go : (t : Bool) → is_mdat c ≡ t → t ≡ false
+    go true i = let no : is_padding c.id ≡ false = rw (same_true c.id (codes "mdat") i) refl in absurd cc
+    go false i = refl
+
+gaps_no_mdat : (cs : List Chunk) → NoMdat (gaps_of cs)
+gaps_no_mdat [] = tt
+gaps_no_mdat (c ∷ cs) = go (is_padding c.id) refl (gaps_no_mdat cs)
+  where
+    go : (t : Bool) → is_padding c.id ≡ t → NoMdat (gaps_of cs) → NoMdat (cond t (c ∷ gaps_of cs) [])
+    go true e again = (padding_no_mdat c e, again)
+    go false e again = tt
+
+module _ (m : Movie) (e : List (Item Text)) where
+  kept_bytes : old_length (pieces_of m e) ≡ length (spell_all (atoms_in m.movie).chunks)
+  kept_bytes =
+      let xs = map cell_of (atoms_in m.movie).chunks in
+      ap length (units_old shut (carried udta user_items e xs) ∙ ap spell_all (was_carried e xs ∙ was_read (atoms_in m.movie).chunks))
+
+  pub behind_split : slot_behind m e ++ rest_behind m e ≡ m.behind
+  behind_split = go (is_open m e)
+    where
+      go : (t : Bool) → cond t (gaps_of m.behind) [] ++ cond t (past_gaps m.behind) m.behind ≡ m.behind
+      go true = gaps_split m.behind
+      go false = refl
+
+  pub opened_last : is_open m e ≡ true → ends_open (pieces_of m e) ≡ true
+  opened_last o = (and_parts (is_nil (atoms_in m.movie).left) (ends_open (pieces_of m e)) o).1
+
+  whole_old : old_length (whole_pieces m e) ≡ old_length (pieces_of m e) + length (spell_all (slot_behind m e))
+  whole_old = go (is_open m e) refl
+    where
+      go : (t : Bool) → is_open m e ≡ t → old_length (cond t (grown (spell_all (gaps_of m.behind)) (pieces_of m e)) (pieces_of m e)) ≡ old_length (pieces_of m e) + length (spell_all (cond t (gaps_of m.behind) []))
+      go true o = grown_old (spell_all (gaps_of m.behind)) (pieces_of m e) (last_units shut (carried udta user_items e (map cell_of (atoms_in m.movie).chunks))) (opened_last o)
+      go false o = omega arith
+
+  pub whole_brings : BringsPad (whole_pieces m e)
+  whole_brings = go (is_open m e)
+    where
+      b : BringsPad (pieces_of m e)
+      b = units_bring shut (carried udta user_items e (map cell_of (atoms_in m.movie).chunks)) tt
+
+      go : (t : Bool) → BringsPad (cond t (grown (spell_all (gaps_of m.behind)) (pieces_of m e)) (pieces_of m e))
+      go true = grown_brings (spell_all (gaps_of m.behind)) (pieces_of m e) b
+      go false = b
+
+  whole_new : length (spell_all (lay (fill (ends_file m e)) (whole_pieces m e))) ≡ length (spell_all (lay (fill (is_open m e)) (pieces_of m e))) + length (spell_all (padding_behind m e))
+  whole_new = go (is_open m e) refl
+    where
+      go : (t : Bool) → is_open m e ≡ t
+          → length (spell_all (lay (fill (ends_file m e)) (cond t (grown (spell_all (gaps_of m.behind)) (pieces_of m e)) (pieces_of m e))))
+          ≡ length (spell_all (lay (fill t) (pieces_of m e))) + length (spell_all (cond t (hanging (fill (ends_file m e)) (cond t (grown (spell_all (gaps_of m.behind)) (pieces_of m e)) (pieces_of m e))) []))
+      go true o = grown_new (ends_file m e) (spell_all (gaps_of m.behind)) (pieces_of m e) (last_units shut (carried udta user_items e (map cell_of (atoms_in m.movie).chunks))) (opened_last o)
+      go false o = let no : ends_file m e ≡ false = ap (λ (t : Bool). t && (is_nil (rest_behind m e) && is_nil m.left)) o in omega (arith, ap (λ (t : Bool). length (spell_all (lay (fill t) (pieces_of m e)))) no)
+
+  padding_no_mdats : NoMdat (padding_behind m e)
+  padding_no_mdats = go (is_open m e)
+    where
+      go : (t : Bool) → NoMdat (cond t (hanging (fill (ends_file m e)) (whole_pieces m e)) [])
+      go true = Rattle.mov_model.proofs.Again.hanging_all (λ c. is_mdat c ≡ false) (λ body lt. refl) (ends_file m e) (whole_pieces m e)
+      go false = tt
+
+  slot_no_mdats : NoMdat (slot_behind m e)
+  slot_no_mdats = go (is_open m e)
+    where
+      go : (t : Bool) → NoMdat (cond t (gaps_of m.behind) [])
+      go true = gaps_no_mdat m.behind
+      go false = tt
+
+-- ---- the edit of a supported movie
+
+module _ (o : List ℕ) (bytes : IsBytes o) (sup : Supported o) (e : List (Item Text)) (user : UserItems e) (fits : Fits (mov o bytes sup) e) where
+  abbrev old : Movie
+  old = mov o bytes sup
+
+  abbrev new : Movie
+  new = now o bytes sup e fits
+
+  abbrev f : ℕ → ℕ
+  f = move o bytes sup e fits
+
+  pub parts_whole : AllByRecursion KidWhole (parts old)
+  parts_whole = all_and (Whole format 5 moov) (λ c. IsBytes c.body) KidWhole (λ c w b. (w, b)) (parts old) sup.movie.tracks_end (all_solids (λ c. IsBytes c.body) (λ c b. b) (kids o bytes sup) (kids_bytes o bytes sup))
+
+  pub user_whole : AllByRecursion UserWhole (first_user (map (relocated f) (parts old)))
+  user_whole =
+      rw (first_user_relocated f (parts old))
+      (all_and _ (λ c. IsBytes c.body) UserWhole (λ c w b. (w, b)) (first_user (parts old)) sup.movie.user_ends (all_first_user (λ c. IsBytes c.body) (parts old) (all_solids (λ c. IsBytes c.body) (λ c b. b) (kids o bytes sup) (kids_bytes o bytes sup))))
+
+  -- moov's atoms, but for padding, are the old ones relocated and edited
+  pub new_parts : parts new ≡ edited_chunks udta user_items e (map (relocated f) (parts old))
+  new_parts =
+      let xs = map cell_of (kids o bytes sup) in
+      ap (λ (r : Run). solids is_padding r.chunks) (moov_again o bytes sup e fits)
+      ∙ solids_map (relocated f) (relocated_id f) (relocated_pad f) (lay (fill (is_open old e)) (pieces_of old e))
+      ∙ ap (map (relocated f)) (units_solids is_padding (fill (is_open old e)) (fill_nothing (is_open old e)) shut (carried udta user_items e xs) (gaps_carried e xs (gaps_read (kids o bytes sup))) ∙ solids_carried e (kids o bytes sup))
+      ∙ edited_relocated f e (parts old)
+
+  -- clause 2
+  pub new_fields : (name : List ℕ) → values user_items name (first_items (parts new)) ≡ updated e name (values user_items name (first_items (parts old)))
+  new_fields name =
+      ap (λ (cs : List Chunk). values user_items name (first_items cs)) new_parts
+      ∙ ap (values user_items name) (items_all e (map (relocated f) (parts old)) user user_whole)
+      ∙ values_after user_items e name (first_items (map (relocated f) (parts old))) (Rattle.mov_model.proofs.User.all_made e user)
+      ∙ ap (λ (cs : List Chunk). updated e name (values user_items name cs)) (Rattle.mov_model.proofs.Parts.items_relocated f (parts old))
+
+  -- clause 3
+  pub new_kept : kept_in new ≡ placed (kept_in old) e
+  new_kept =
+      let inside : nodes (parts new) ≡ Rattle.mov_model.specs.Edited.placed_nodes e (nodes (parts old))
+      = ap nodes new_parts ∙ nodes_all e (map (relocated f) (parts old)) user user_whole ∙ ap (Rattle.mov_model.specs.Edited.placed_nodes e) (nodes_relocated f (parts old) parts_whole) in
+      let rest : (atoms_in new.movie).left ≡ moov_left o bytes sup = ap (λ (r : Run). r.left) (moov_again o bytes sup e fits) in
+      rw (inside, rest, behind_solids old e) refl
+
+  -- ---- clause 4
+
+  pub new_tracks : tracks new ≡ map (relocated f) (tracks old)
+  new_tracks = ap (flat_map track_of) new_parts ∙ tracks_all e (map (relocated f) (parts old)) user ∙ tracks_relocated f (parts old)
+
+  new_kids_len : length (spell_all (new_kids old e)) ≡ length (spell_all (lay (fill (is_open old e)) (pieces_of old e)))
+  new_kids_len = all_len (relocated f) (lay (fill (is_open old e)) (pieces_of old e)) (laid_alike o bytes sup e fits)
+
+  before_moves : (p : ℕ) → p < length (spell_all old.before) → f p ≡ p
+  before_moves p lt = (before_stays (edit_cuts old e) p (before_all (fill (ends_file old e)) (kids_at old e) (whole_pieces old e) p (omega arith))).1
+
+  behind_moves : (p : ℕ) → length (spell_all old.before) + length (spell_all (old.movie ∷ slot_behind old e)) ≤ p
+      → f p + (length (spell_all old.before) + length (spell_all (old.movie ∷ slot_behind old e))) ≡ p + (length (spell_all old.before) + length (spell_all (new.movie ∷ padding_behind old e)))
+  behind_moves p le =
+      let head = header_bytes old.movie.form old.movie.id (length old.movie.body) in
+      let head_now = header_bytes old.movie.form old.movie.id (length new.movie.body) in
+      let same = header_len old.movie.form old.movie.id (length old.movie.body) (length new.movie.body) in
+      let left = moov_left o bytes sup in
+      let body : length old.movie.body ≡ length (spell_all (kids o bytes sup)) + length left = ap length (sym (kids_joined o bytes sup)) ∙ length-append (spell_all (kids o bytes sup)) left in
+      let body_now : length new.movie.body ≡ length (spell_all (new_kids old e)) + length left = length-append (spell_all (new_kids old e)) left in
+      let one : length (spell_all (old.movie ∷ slot_behind old e)) ≡ length head + length old.movie.body + length (spell_all (slot_behind old e))
+      = omega (arith, length-append (spell old.movie) (spell_all (slot_behind old e)), length-append head (old.movie.body ++ old.movie.pad), length-append old.movie.body old.movie.pad, ap length (moov_padless o bytes sup)) in
+      let two : length (spell_all (new.movie ∷ padding_behind old e)) ≡ length head_now + length new.movie.body + length (spell_all (padding_behind old e))
+      = omega (arith, length-append (spell new.movie) (spell_all (padding_behind old e)), length-append head_now (new.movie.body ++ old.movie.pad), length-append new.movie.body old.movie.pad, ap length (moov_padless o bytes sup)) in
+      let far : kids_at old e + old_length (whole_pieces old e) ≤ p = omega (arith, le, one, body, whole_old old e, kept_bytes old e) in
+      let moved = (past_moves (fill (ends_file old e)) (kids_at old e) (whole_pieces old e) p (whole_brings old e) far).1 in
+      omega (arith, moved, one, two, body, body_now, same, whole_old old e, kept_bytes old e, whole_new old e, new_kids_len)
+
+  -- what a place holds moves with it
+  pub held_again : (p : ℕ) (x : ℕ × List ℕ) → held 0 p (all_atoms old) ≡ Some x → held 0 (f p) (all_atoms new) ≡ Some x
+  held_again p x h =
+      let no : is_mdat old.movie ≡ false = rw sup.movie.is_moov refl in
+      let there : held 0 p (old.before ++ ((old.movie ∷ slot_behind old e) ++ rest_behind old e)) ≡ Some x = ap (λ (cs : List Chunk). held 0 p (old.before ++ old.movie ∷ cs)) (behind_split old e) ∙ h in
+      held_moves f p x old.before (old.movie ∷ slot_behind old e) (new.movie ∷ padding_behind old e) (rest_behind old e) (no, slot_no_mdats old e) (no, padding_no_mdats old e) (before_moves p) (behind_moves p) there
+
+  all_held : (ps : List ℕ) → AllByRecursion (IsHeld (all_atoms old)) ps → map (λ p. held 0 p (all_atoms new)) (map f ps) ≡ map (λ p. held 0 p (all_atoms old)) ps
+  all_held [] h = refl
+  all_held (p ∷ ps) h = rw (held_again p h.0.0 h.0.1, h.0.1, all_held ps h.1) refl
+
+  track_again : (t : Chunk) → KidWhole t → TrackFine (all_atoms old) t → AllByRecursion (FitsRows f) (tables t) → track_pieces (all_atoms new) (tables (relocated f t)) ≡ track_pieces (all_atoms old) (tables t)
+  track_again t w fine rows =
+      let ts = tables t in
+      let hs = map (λ p. held 0 p (all_atoms old)) (places ts) in
+      let found : map (λ p. held 0 p (all_atoms new)) (places (map (moved_table f) ts)) ≡ hs = ap (map (λ p. held 0 p (all_atoms new))) (places_moved f ts fine.long_rows rows) ∙ all_held (places ts) fine.chunks_inside in
+      ap (track_pieces (all_atoms new)) (relocated_tables f t w.0 w.1) ∙ ap (pieces_by (map (moved_table f) ts)) found
+      ∙ ap (λ (s : List (List (List ℕ))). record { chunks = hs; samples = s }) (samples_moved f ts (map tail_of hs))
+
+  tracks_again : (ts : List Chunk) → AllByRecursion KidWhole ts → AllByRecursion (TrackFine (all_atoms old)) ts → AllByRecursion (λ t. AllByRecursion (FitsRows f) (tables t)) ts
+      → map (λ t. track_pieces (all_atoms new) (tables t)) (map (relocated f) ts) ≡ map (λ t. track_pieces (all_atoms old) (tables t)) ts
+  tracks_again [] w h r = refl
+  tracks_again (t ∷ ts) w h r = rw (track_again t w.0 h.0 r.0, tracks_again ts w.1 h.1 r.1) refl
+
+  pub new_pieces : pieces_in new ≡ pieces_in old
+  new_pieces =
+      ap (map (λ t. track_pieces (all_atoms new) (tables t))) new_tracks
+      ∙ tracks_again (tracks old) (all_tracks KidWhole (parts old) parts_whole) sup.movie.tracks fits.rows

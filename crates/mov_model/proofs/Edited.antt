@@ -1,0 +1,109 @@
+-- The edit, whole; and that nothing is edited without an item.
+use Rattle.std.proofs.Common.{◌≡◌, ℕ, ◌+◌, Bool, true, false, cond, List, [], ◌∷◌, ◌++◌, length, map, refl, ap, ◌∙◌, arith}
+use Rattle.std.specs.Prelude.{◌&&◌, not}
+use Rattle.std.specs.List.{AllByRecursion}
+use Rattle.std.proofs.lemmas.Bool.{le-ltb}
+use Rattle.container_model.specs.Chunk.{Chunk, spell, spell_all}
+use Rattle.container_model.specs.Sizes.{inside}
+use Rattle.container_model.specs.Splice.{Cut, shift}
+use Rattle.container_model.specs.Units.{lacks_pad, is_empty, kept_next, Piece, copied, shut, units, Fill, lay, cuts}
+use Rattle.container_model.specs.Deep.{Whole}
+use Rattle.container_model.specs.Items.{Item, is_nil, values}
+use Rattle.container_model.proofs.Codec.{IsBytes}
+use Rattle.container_model.proofs.Read.{Atom}
+use Rattle.mov_model.specs.Atoms.{moov, format, is_padding, cell_by, cell_of, atoms_in}
+use Rattle.mov_model.specs.User.{Text, user_items}
+use Rattle.mov_model.specs.Tables.{relocated}
+use Rattle.mov_model.specs.Movie.{Movie, spell_movie, movie_of, fill, gaps_of, past_gaps, ends_open, grown, hanging, pieces_of, is_open, rest_behind, whole_pieces, ends_file, kids_at, edit_cuts, padding_behind, new_kids, new_movie, new}
+use Rattle.mov_model.specs.Edited.{parts, first_items, kept_in, pieces_in, Supported, Edited, Fits, UserItems}
+use Rattle.mov_model.proofs.Tables.{relocated_none}
+use Rattle.mov_model.proofs.Again.{mov, kids, kids_joined, kids_bytes, kids_read, whole_kids, moov_left, file_bytes, movie_again}
+use Rattle.mov_model.proofs.Clauses.{new_fields, new_kept, new_pieces}
+use Rattle.mov_model.proofs.Supported.{new_supported}
+
+-- ---- without an item
+
+atom_padded : (c : Chunk) → Atom inside c → lacks_pad c ≡ false
+atom_padded c a = le-ltb _ _ (omega (arith, a.pad_none))
+
+pieces_none : (cs : List Chunk) → AllByRecursion (Atom inside) cs → units shut (map cell_of cs) ≡ map copied cs
+unfolding units
+pieces_none [] h = refl
+pieces_none (c ∷ cs) h = go (is_padding c.id) (pieces_none cs h.1)
+  where
+    next : units shut (map cell_of cs) ≡ map copied cs → kept_next (lacks_pad c && not (is_empty (map cell_of cs))) c (λ t. units t (map cell_of cs)) ≡ copied c ∷ map copied cs
+    next again = ap (λ (t : Bool). kept_next (t && not (is_empty (map cell_of cs))) c (λ t. units t (map cell_of cs))) (atom_padded c h.0) ∙ ap (λ (ps : List Piece). copied c ∷ ps) again
+
+    go : (t : Bool) → units shut (map cell_of cs) ≡ map copied cs → units shut (cell_by c t ∷ map cell_of cs) ≡ copied c ∷ map copied cs
+    go true again = next again
+    go false again = next again
+
+lay_none : (f : Fill) (cs : List Chunk) → lay f (map copied cs) ≡ cs
+lay_none f [] = refl
+lay_none f (c ∷ cs) = ap (λ (x : List Chunk). c ∷ x) (lay_none f cs)
+
+none_open : (cs : List Chunk) → ends_open (map copied cs) ≡ false
+none_open [] = refl
+none_open (c ∷ cs) = none_open cs
+
+cuts_none : (f : Fill) (at : ℕ) (cs : List Chunk) → cuts f at (map copied cs) ≡ []
+cuts_none f at [] = refl
+cuts_none f at (c ∷ cs) = cuts_none f (at + length (spell c)) cs
+
+and_false : (a b : Bool) → b ≡ false → (a && b) ≡ false
+and_false true b e = e
+and_false false b e = refl
+
+shift_none : (p : ℕ) → shift [] p ≡ p
+shift_none p = omega arith
+
+relocated_all : (f : ℕ → ℕ) → ((p : ℕ) → f p ≡ p) → (cs : List Chunk) → AllByRecursion (Whole format 5 moov) cs → AllByRecursion (λ c. IsBytes c.body) cs → map (relocated f) cs ≡ cs
+relocated_all f same [] w b = refl
+relocated_all f same (c ∷ cs) w b = rw (relocated_none f same c w.0 b.0, relocated_all f same cs w.1 b.1) refl
+
+module _ (o : List ℕ) (bytes : IsBytes o) (sup : Supported o) where
+  abbrev old : Movie
+  old = mov o bytes sup
+
+  pieces_is : pieces_of old [] ≡ map copied (kids o bytes sup)
+  pieces_is = pieces_none (kids o bytes sup) (kids_read o bytes sup).0
+
+  closed_is : is_open old [] ≡ false
+  closed_is = and_false (is_nil (atoms_in old.movie).left) (ends_open (pieces_of old [])) (ap ends_open pieces_is ∙ none_open (kids o bytes sup))
+
+  cuts_is : edit_cuts old [] ≡ []
+  cuts_is =
+      ap (λ (t : Bool). cuts (fill (ends_file old [])) (kids_at old []) (cond t (grown (spell_all (gaps_of old.behind)) (pieces_of old [])) (pieces_of old []))) closed_is
+      ∙ ap (cuts (fill (ends_file old [])) (kids_at old [])) pieces_is ∙ cuts_none (fill (ends_file old [])) (kids_at old []) (kids o bytes sup)
+
+  kids_is : new_kids old [] ≡ kids o bytes sup
+  kids_is =
+      ap (λ (ps : List Piece). map (relocated (shift (edit_cuts old []))) (lay (fill (is_open old [])) ps)) pieces_is
+      ∙ ap (map (relocated (shift (edit_cuts old [])))) (lay_none (fill (is_open old [])) (kids o bytes sup))
+      ∙ ap (λ (cs : List Cut). map (relocated (shift cs)) (kids o bytes sup)) cuts_is
+      ∙ relocated_all (shift []) shift_none (kids o bytes sup) (whole_kids (kids o bytes sup) sup.movie.tracks_end) (kids_bytes o bytes sup)
+
+  movie_is : new_movie old [] ≡ old
+  movie_is =
+      let body : spell_all (new_kids old []) ++ moov_left o bytes sup ≡ old.movie.body = ap (λ (cs : List Chunk). spell_all cs ++ moov_left o bytes sup) kids_is ∙ kids_joined o bytes sup in
+      let behind : padding_behind old [] ++ rest_behind old [] ≡ old.behind
+      = ap (λ (t : Bool). cond t (hanging (fill (ends_file old [])) (whole_pieces old [])) [] ++ cond t (past_gaps old.behind) old.behind) closed_is in
+      ap (λ (x : List ℕ). record old { movie = record old.movie { body = x }; behind = padding_behind old [] ++ rest_behind old [] }) body
+      ∙ ap (λ (cs : List Chunk). record old { behind = cs }) behind
+
+  pub new_nothing : new o [] ≡ o
+  unfolding new
+  new_nothing = ap spell_movie movie_is ∙ file_bytes o bytes sup
+
+-- The law: the new file is the old one edited.
+pub edited_law : (o : List ℕ) (e : List (Item Text)) → IsBytes o → Supported o → UserItems e → Fits (movie_of o) e → Edited o e (new o e)
+unfolding new
+edited_law o e bytes sup user fits =
+    let again = movie_again o bytes sup e fits in
+    record {
+      supported = new_supported o bytes sup e user fits;
+      reads_back = λ name. ap (λ (m : Movie). values user_items name (first_items (parts m))) again ∙ new_fields o bytes sup e user fits name;
+      kept_in_order = ap kept_in again ∙ new_kept o bytes sup e user fits;
+      same_pieces = ap pieces_in again ∙ new_pieces o bytes sup e user fits;
+      no_effect = λ none. ap (new o) none ∙ new_nothing o bytes sup;
+    }

@@ -1,0 +1,99 @@
+-- What is not too large fits.
+use Rattle.std.proofs.Common.{◌≡◌, ℕ, ◌^◌, ◌<◌, ◌≤◌, Bool, true, false, cond, List, [], ◌∷◌, ◌++◌, length, map, Some, None, refl, sym, ap, subst, arith}
+use Rattle.std.specs.Prelude.{codes}
+use Rattle.std.specs.List.{flat_map, AllByRecursion}
+use Rattle.std.proofs.lemmas.Bool.{ltb-false}
+use Rattle.container_model.specs.Chunk.{Chunk}
+use Rattle.container_model.specs.Splice.{shift}
+use Rattle.container_model.specs.Items.{Item, put_all, edit_carrier}
+use Rattle.container_model.proofs.Codec.{IsBytes}
+use Rattle.container_model.proofs.Items.{same_true}
+use Rattle.mov_model.specs.Atoms.{is}
+use Rattle.mov_model.specs.User.{Text, user_items, udta}
+use Rattle.mov_model.specs.Tables.{four, eight, rows, tables, FitsRows}
+use Rattle.mov_model.specs.Movie.{Movie, movie_of, has_carrier, fresh, edit_cuts, new}
+use Rattle.mov_model.specs.Edited.{Node, nodes, kept, parts, first_user, tracks, Fits, Supported, UserItems, Edited}
+use Rattle.mov_model.specs.Large.{Size, sized, passes, first_passing, user_sizes, row_sizes, table_sizes, all_sizes, too_large}
+use Rattle.mov_model.proofs.Edited.{edited_law, new_nothing}
+use Rattle.mov_model.proofs.Parts.{placed_nothing}
+
+abbrev pub Within : List Size → Type 0
+Within ss = AllByRecursion (λ (s : Size). s.size ≤ s.limit) ss
+
+within : (ss : List Size) → first_passing ss ≡ None → Within ss
+within [] e = tt
+within (s ∷ ss) e = go (passes s) refl e (within ss)
+  where
+    go : (t : Bool) → passes s ≡ t → cond t (Some s) (first_passing ss) ≡ None → (first_passing ss ≡ None → Within ss) → (s.size ≤ s.limit) × Within ss
+    go true p e again = absurd cc
+    go false p e again = (ltb-false _ _ p, again e)
+
+within_both : (a b : List Size) → Within (a ++ b) → Within a × Within b
+within_both [] b h = (tt, h)
+within_both (s ∷ a) b h = let r = within_both a b h.1 in ((h.0, r.0), r.1)
+
+within_map : {X : Type 0} (f : X → Size) (xs : List X) → Within (map f xs) → AllByRecursion (λ x. (f x).size ≤ (f x).limit) xs
+within_map f [] h = tt
+within_map f (x ∷ xs) h = (h.0, within_map f xs h.1)
+
+within_flat : {X : Type 0} (f : X → List Size) (xs : List X) → Within (flat_map f xs) → AllByRecursion (λ x. Within (f x)) xs
+within_flat f [] h = tt
+within_flat f (x ∷ xs) h = let r = within_both (f x) (flat_map f xs) h in (r.0, within_flat f xs r.1)
+
+below : (f : ℕ → ℕ) (limit bound : ℕ) → ((n : ℕ) → n ≤ limit → n < bound) → (ps : List ℕ) → AllByRecursion (λ p. f p ≤ limit) ps → AllByRecursion (λ p. f p < bound) ps
+below f limit bound w [] h = tt
+below f limit bound w (p ∷ ps) h = (w (f p) h.0, below f limit bound w ps h.1)
+
+row_fits : (f : ℕ → ℕ) (c : Chunk) → Within (row_sizes f c) → FitsRows f c
+row_fits f c h = (four_fits, eight_fits)
+  where
+    four_fits : is c (codes "stco") ≡ true → AllByRecursion (λ p. f p < 2 ^ 32) (rows four c)
+    four_fits e =
+        let one : row_sizes f c ≡ map (λ p. sized (f p) 4294967295) (rows four c) = rw e refl in
+        below f 4294967295 (2 ^ 32) (λ n le. omega arith) (rows four c) (within_map (λ p. sized (f p) 4294967295) (rows four c) (rw one at h))
+
+    eight_fits : is c (codes "co64") ≡ true → AllByRecursion (λ p. f p < 2 ^ 64) (rows eight c)
+    eight_fits e =
+        let no : is c (codes "stco") ≡ false = rw (same_true c.id (codes "co64") e) refl in
+        let one : row_sizes f c ≡ map (λ p. sized (f p) 18446744073709551615) (rows eight c) = rw (no, e) refl in
+        below f 18446744073709551615 (2 ^ 64) (λ n le. omega arith) (rows eight c) (within_map (λ p. sized (f p) 18446744073709551615) (rows eight c) (rw one at h))
+
+rows_fit : (f : ℕ → ℕ) (cs : List Chunk) → AllByRecursion (λ c. Within (row_sizes f c)) cs → AllByRecursion (FitsRows f) cs
+rows_fit f [] h = tt
+rows_fit f (c ∷ cs) h = (row_fits f c h.0, rows_fit f cs h.1)
+
+tracks_fit : (f : ℕ → ℕ) (ts : List Chunk) → AllByRecursion (λ (t : Chunk). Within (flat_map (row_sizes f) (tables t))) ts → AllByRecursion (λ t. AllByRecursion (FitsRows f) (tables t)) ts
+tracks_fit f [] h = tt
+tracks_fit f (t ∷ ts) h = (rows_fit f (tables t) (within_flat (row_sizes f) (tables t) h.0), tracks_fit f ts h.1)
+
+pub fits_of : (m : Movie) (e : List (Item Text)) → first_passing (all_sizes m e) ≡ None → Fits m e
+fits_of m e none =
+    let all = within (all_sizes m e) none in
+    let a = within_both (user_sizes m e) _ all in
+    let u = within_both (map (λ (c : Chunk). sized (length (edit_carrier udta user_items e c).body) (2 ^ 24)) (first_user (parts m))) _ a.0 in
+    let t = within_both (table_sizes m e) _ a.1.1.1 in
+    record {
+      user_small = within_map (λ (c : Chunk). sized (length (edit_carrier udta user_items e c).body) (2 ^ 24)) (first_user (parts m)) u.0;
+      fresh_small = λ n.
+          let one : cond (has_carrier udta (parts m)) [] (map (λ (c : Chunk). sized (length c.body) (2 ^ 24)) (fresh udta (put_all user_items e []))) ≡ map (λ (c : Chunk). sized (length c.body) (2 ^ 24)) (fresh udta (put_all user_items e [])) = rw n refl in
+          within_map (λ (c : Chunk). sized (length c.body) (2 ^ 24)) (fresh udta (put_all user_items e [])) (rw one at u.1);
+      movie_small = a.1.1.0;
+      rows = tracks_fit (shift (edit_cuts m e)) (tracks m) (within_flat (λ (t : Chunk). flat_map (row_sizes (shift (edit_cuts m e))) (tables t)) (tracks m) t.0);
+      few_parts = a.1.0;
+    }
+
+-- nothing is done without an item
+edited_nothing : (o : List ℕ) → Supported o → Edited o [] o
+edited_nothing o sup =
+    record {
+      supported = sup;
+      reads_back = λ name. refl;
+      kept_in_order = ap (λ (ns : List Node). record (kept o) { inside = ns }) (sym (placed_nothing (nodes (parts (movie_of o)))));
+      same_pieces = refl;
+      no_effect = λ none. refl;
+    }
+
+-- The law, where nothing is too large.
+pub whole_law : (o : List ℕ) (e : List (Item Text)) → IsBytes o → Supported o → UserItems e → too_large (movie_of o) e ≡ None → Edited o e (new o e)
+whole_law o [] bytes sup user none = subst (Edited o []) (sym (new_nothing o bytes sup)) (edited_nothing o sup)
+whole_law o (i ∷ e) bytes sup user none = edited_law o (i ∷ e) bytes sup user (fits_of (movie_of o) (i ∷ e) none)

@@ -1,0 +1,208 @@
+-- To relocate the tables in the old file and then to lay the edit gives the new file.
+use Rattle.std.proofs.Common.{◌≡◌, ℕ, ◌+◌, Bool, true, false, cond, List, [], ◌∷◌, ◌++◌, length, map, refl, sym, ap, ◌∙◌, append_assoc, arith}
+use Rattle.std.specs.Prelude.{◌&&◌, ◌||◌, not, codes}
+use Rattle.std.specs.List.{flat_map, AllByRecursion}
+use Rattle.std.proofs.lemmas.List.{append-nil}
+use Rattle.std.proofs.lemmas.List.Concat.{flat_map-append}
+use Rattle.container_model.specs.Chunk.{Chunk, spell, spell_all}
+use Rattle.container_model.specs.Units.{Cell, kept, gap, edited, was, padded, lacks_pad, Piece, copied, replaced, Slot, shut, begun, is_empty, closed, kept_next, units, old_bytes, unit_bytes, lay, cuts}
+use Rattle.container_model.specs.Items.{Item, put_all, edit_carrier}
+use Rattle.container_model.proofs.Deep.{Alike, alike_len}
+use Rattle.container_model.proofs.Units.{spell_all-append, BringsPad}
+use Rattle.mov_model.proofs.Laid.{LastOnly}
+use Rattle.mov_model.specs.Atoms.{is, is_padding, cell_by, cell_of, atom}
+use Rattle.mov_model.specs.User.{Text, user_items, udta}
+use Rattle.mov_model.specs.Movie.{padding, fill, ends_open, grown, hanging, has_carrier, first_cell, only_gaps, add_last, fresh, add_new, carry_by, carried}
+
+module _ (g : Chunk → Chunk) where
+  -- pieces whose copied chunks are changed
+  abbrev pub changed_piece : Piece → Piece
+  changed_piece (copied c) = copied (g c)
+  changed_piece (replaced lead slot now last) = replaced lead slot now last
+
+  -- copied chunks keep their length, and nothing in a unit is changed
+  abbrev pub Fixed : List Piece → Type 0
+  Fixed [] = Unit {0}
+  Fixed (copied c ∷ ps) = Alike c (g c) × Fixed ps
+  Fixed (replaced lead slot now last ∷ ps) = (lead ≡ []) × (map g now ≡ now) × Fixed ps
+
+  pub changed_cuts : (f : Bool) (at : ℕ) (ps : List Piece) → Fixed ps → cuts (fill f) at (map changed_piece ps) ≡ cuts (fill f) at ps
+  changed_cuts f at [] h = refl
+  changed_cuts f at (copied c ∷ ps) h = ap (λ (n : ℕ). cuts (fill f) (at + n) (map changed_piece ps)) (alike_len c (g c) h.0) ∙ changed_cuts f (at + length (spell c)) ps h.1
+  changed_cuts f at (replaced lead slot now last ∷ ps) h = ap (λ (x : List _). Rattle.container_model.specs.Units.cut_of (fill f) at lead slot now last ∷ x) (changed_cuts f (at + length (spell_all lead ++ slot)) ps h.2)
+
+  map-chunks : (a b : List Chunk) → map g (a ++ b) ≡ map g a ++ map g b
+  map-chunks [] b = refl
+  map-chunks (c ∷ a) b = ap (λ (x : List Chunk). g c ∷ x) (map-chunks a b)
+
+  module _ (free : (body : List ℕ) → g (atom (codes "free") body) ≡ atom (codes "free") body) where
+    fill_fixed : (f last : Bool) (slot : List ℕ) (s : ℕ) → map g (fill f last slot s) ≡ fill f last slot s
+    fill_fixed f last slot s = go (f && last)
+      where
+        one : (t : Bool) (body : List ℕ) → map g (cond t [] (atom (codes "free") body ∷ [])) ≡ cond t [] (atom (codes "free") body ∷ [])
+        one true body = refl
+        one false body = ap (λ (c : Chunk). c ∷ []) (free body)
+
+        go : (t : Bool) → map g (cond t [] (padding slot s)) ≡ cond t [] (padding slot s)
+        go true = refl
+        go false = one (Rattle.std.proofs.Common.leb (length slot) s) _
+
+    pub changed_lay : (f : Bool) (ps : List Piece) → Fixed ps → lay (fill f) (map changed_piece ps) ≡ map g (lay (fill f) ps)
+    changed_lay f [] h = refl
+    changed_lay f (copied c ∷ ps) h = ap (λ (x : List Chunk). g c ∷ x) (changed_lay f ps h.1)
+    changed_lay f (replaced lead slot now last ∷ ps) h =
+        let p = fill f last slot (length (unit_bytes lead now)) in
+        let one : map g (map padded lead ++ (now ++ p)) ≡ map padded lead ++ (now ++ p)
+        = ap (λ (x : List Chunk). map g (map padded x ++ (now ++ p))) h.0 ∙ map-chunks now p ∙ rw (h.1, fill_fixed f last slot (length (unit_bytes lead now))) (ap (λ (x : List Chunk). map padded x ++ (now ++ p)) (sym h.0)) in
+        sym (map-chunks (map padded lead ++ (now ++ p)) (lay (fill f) ps) ∙ ap (λ (x : List Chunk). x ++ map g (lay (fill f) ps)) one ∙ ap (λ (x : List Chunk). (map padded lead ++ (now ++ p)) ++ x) (sym (changed_lay f ps h.2)))
+
+  pub changed_grown : (more : List ℕ) (ps : List Piece) → map changed_piece (grown more ps) ≡ grown more (map changed_piece ps)
+  changed_grown more [] = refl
+  changed_grown more (copied c ∷ ps) = ap (λ (x : List Piece). copied (g c) ∷ x) (changed_grown more ps)
+  changed_grown more (replaced lead slot now true ∷ ps) = refl
+  changed_grown more (replaced lead slot now false ∷ ps) = ap (λ (x : List Piece). replaced lead slot now false ∷ x) (changed_grown more ps)
+
+  pub grown_fixed : (more : List ℕ) (ps : List Piece) → Fixed ps → Fixed (grown more ps)
+  grown_fixed more [] h = tt
+  grown_fixed more (copied c ∷ ps) h = (h.0, grown_fixed more ps h.1)
+  grown_fixed more (replaced lead slot now true ∷ ps) h = h
+  grown_fixed more (replaced lead slot now false ∷ ps) h = (h.0, h.1, grown_fixed more ps h.2)
+
+  pub changed_brings : (ps : List Piece) → BringsPad ps → BringsPad (map changed_piece ps)
+  changed_brings [] h = tt
+  changed_brings (copied c ∷ ps) h = changed_brings ps h
+  changed_brings (replaced lead slot now last ∷ ps) h = (h.0, changed_brings ps h.1)
+
+  pub changed_last : (ps : List Piece) → LastOnly ps → LastOnly (map changed_piece ps)
+  changed_last [] h = tt
+  changed_last (copied c ∷ ps) h = changed_last ps h
+  changed_last (replaced lead slot now last ∷ ps) h = (λ e. ap (map changed_piece) (h.0 e), changed_last ps h.1)
+
+  pub changed_open : (ps : List Piece) → ends_open (map changed_piece ps) ≡ ends_open ps
+  changed_open [] = refl
+  changed_open (copied c ∷ ps) = changed_open ps
+  changed_open (replaced lead slot now last ∷ ps) = ap (λ (t : Bool). last || t) (changed_open ps)
+
+  pub changed_hanging : (f : Bool) (ps : List Piece) → hanging (fill f) (map changed_piece ps) ≡ hanging (fill f) ps
+  changed_hanging f [] = refl
+  changed_hanging f (copied c ∷ ps) = changed_hanging f ps
+  changed_hanging f (replaced lead slot now true ∷ ps) = refl
+  changed_hanging f (replaced lead slot now false ∷ ps) = changed_hanging f ps
+
+  -- ---- pieces of cells
+
+  -- copied chunks keep their length and have their pads; padding and what is edited is not changed
+  abbrev pub FixedCells : List Cell → Type 0
+  FixedCells [] = Unit {0}
+  FixedCells (kept c ∷ xs) = (lacks_pad c ≡ false) × Alike c (g c) × FixedCells xs
+  FixedCells (gap c ∷ xs) = (lacks_pad c ≡ false) × (g c ≡ c) × FixedCells xs
+  FixedCells (edited old now ∷ xs) = (map g old ≡ old) × (map g now ≡ now) × FixedCells xs
+
+  abbrev FixedSlot : Slot → Type 0
+  FixedSlot shut = Unit {0}
+  FixedSlot (begun lead slot now) = (lead ≡ []) × (map g now ≡ now)
+
+  fixed_closed : (last : Bool) (s : Slot) (ps : List Piece) → FixedSlot s → Fixed ps → Fixed (closed last s ++ ps)
+  fixed_closed last shut ps h f = f
+  fixed_closed last (begun lead slot now) ps h f = (h.0, h.1, f)
+
+  fixed_next : (t : Bool) (c : Chunk) (end : Bool) (more : Slot → List Piece) → t ≡ false → Alike c (g c) → Fixed (more shut) → Fixed (kept_next (t && end) c more)
+  fixed_next true c end more e h f = absurd cc
+  fixed_next false c end more e h f = (h, f)
+
+  same_alike : (c : Chunk) → g c ≡ c → Alike c (g c)
+  same_alike c e = record { form_is = ap (λ (x : Chunk). x.form) e; id_is = ap (λ (x : Chunk). x.id) e; len_is = ap (λ (x : Chunk). length x.body) e; pad_is = ap (λ (x : Chunk). x.pad) e }
+
+  pub fixed_units : (s : Slot) (xs : List Cell) → FixedSlot s → FixedCells xs → Fixed (units s xs)
+  unfolding units
+  fixed_units s [] h f = rw (← append-nil (closed true s)) (fixed_closed true s [] h tt)
+  fixed_units s (kept c ∷ xs) h f = fixed_closed false s _ h (fixed_next (lacks_pad c) c (not (is_empty xs)) (λ t. units t xs) f.0 f.1 (fixed_units shut xs tt f.2))
+  fixed_units shut (gap c ∷ xs) h f = fixed_next (lacks_pad c) c (not (is_empty xs)) (λ t. units t xs) f.0 (same_alike c f.1) (fixed_units shut xs tt f.2)
+  fixed_units (begun lead slot now) (gap c ∷ xs) h f = fixed_units (begun lead (slot ++ spell c) now) xs h f.2
+  fixed_units shut (edited old new ∷ xs) h f = fixed_units (begun [] (spell_all old) new) xs (refl, f.1) f.2
+  fixed_units (begun lead slot now) (edited old new ∷ xs) h f = fixed_units (begun lead (slot ++ spell_all old) (now ++ new)) xs (h.0, map-chunks now new ∙ rw (h.1, f.1) refl) f.2
+
+  abbrev pub slot_bytes : Slot → List ℕ
+  slot_bytes shut = []
+  slot_bytes (begun lead slot now) = spell_all lead ++ slot
+
+  old_closed : (last : Bool) (s : Slot) → flat_map old_bytes (map changed_piece (closed last s)) ≡ slot_bytes s
+  old_closed last shut = refl
+  old_closed last (begun lead slot now) = append-nil (spell_all lead ++ slot)
+
+  map-pieces : (a b : List Piece) → map changed_piece (a ++ b) ≡ map changed_piece a ++ map changed_piece b
+  map-pieces [] b = refl
+  map-pieces (p ∷ a) b = ap (λ (x : List Piece). changed_piece p ∷ x) (map-pieces a b)
+
+  old_next : (t end : Bool) (c : Chunk) (more : Slot → List Piece) (b : List ℕ) → t ≡ false → flat_map old_bytes (map changed_piece (more shut)) ≡ b → flat_map old_bytes (map changed_piece (kept_next (t && end) c more)) ≡ spell (g c) ++ b
+  old_next true end c more b e h = absurd cc
+  old_next false end c more b e h = ap (λ (x : List ℕ). spell (g c) ++ x) h
+
+  -- the changed pieces make up the changed chunks
+  pub changed_old : (s : Slot) (xs : List Cell) → FixedCells xs → flat_map old_bytes (map changed_piece (units s xs)) ≡ slot_bytes s ++ spell_all (map g (flat_map was xs))
+  unfolding units
+  changed_old s [] f = old_closed true s ∙ sym (append-nil (slot_bytes s))
+  changed_old s (kept c ∷ xs) f =
+      let next = kept_next (lacks_pad c && not (is_empty xs)) c (λ t. units t xs) in
+      ap (flat_map old_bytes) (map-pieces (closed false s) next) ∙ flat_map-append old_bytes (map changed_piece (closed false s)) (map changed_piece next)
+      ∙ rw (old_closed false s, old_next (lacks_pad c) (not (is_empty xs)) c (λ t. units t xs) _ f.0 (changed_old shut xs f.2)) refl
+  changed_old shut (gap c ∷ xs) f = old_next (lacks_pad c) (not (is_empty xs)) c (λ t. units t xs) _ f.0 (changed_old shut xs f.2)
+  changed_old (begun lead slot now) (gap c ∷ xs) f =
+      changed_old (begun lead (slot ++ spell c) now) xs f.2 ∙ ap (λ (d : Chunk). (spell_all lead ++ (slot ++ spell d)) ++ spell_all (map g (flat_map was xs))) (sym f.1) ∙ simp append_assoc
+  changed_old shut (edited old new ∷ xs) f =
+      changed_old (begun [] (spell_all old) new) xs f.2 ∙ ap (λ (d : List Chunk). spell_all d ++ spell_all (map g (flat_map was xs))) (sym f.0)
+      ∙ sym (ap spell_all (map-chunks old (flat_map was xs)) ∙ spell_all-append (map g old) (map g (flat_map was xs)))
+  changed_old (begun lead slot now) (edited old new ∷ xs) f =
+      changed_old (begun lead (slot ++ spell_all old) (now ++ new)) xs f.2 ∙ ap (λ (d : List Chunk). (spell_all lead ++ (slot ++ spell_all d)) ++ spell_all (map g (flat_map was xs))) (sym f.0)
+      ∙ rw (map-chunks old (flat_map was xs), spell_all-append (map g old) (map g (flat_map was xs))) (simp append_assoc)
+
+  -- ---- the cells of an edit
+
+  module _ (same : (c : Chunk) → is c (codes "trak") ≡ false → g c ≡ c) where
+    fixed_first : (e : List (Item Text)) (cs : List Chunk) → AllByRecursion (λ c. (lacks_pad c ≡ false) × Alike c (g c)) cs → FixedCells (map cell_of cs) × FixedCells (first_cell udta (edit_carrier udta user_items e) (map cell_of cs))
+    fixed_first e [] h = (tt, tt)
+    fixed_first e (c ∷ cs) h = go (is_padding c.id) refl (fixed_first e cs h.1)
+      where
+        no_track : is_padding c.id ≡ true → is c (codes "trak") ≡ false
+        no_track p = away (is c (codes "trak")) refl
+          where
+            away : (t : Bool) → is c (codes "trak") ≡ t → t ≡ false
+            away true i = let no : is_padding c.id ≡ false = rw (Rattle.container_model.proofs.Items.same_true c.id (codes "trak") i) refl in absurd cc
+            away false i = refl
+
+        here : (t : Bool) → udta.is c ≡ t → FixedCells (map cell_of cs) × FixedCells (first_cell udta (edit_carrier udta user_items e) (map cell_of cs))
+            → FixedCells (cond t (edited (c ∷ []) (edit_carrier udta user_items e c ∷ []) ∷ map cell_of cs) (kept c ∷ first_cell udta (edit_carrier udta user_items e) (map cell_of cs)))
+        here true u again =
+            let one : is c (codes "trak") ≡ false = rw (Rattle.container_model.proofs.Items.same_true c.id (codes "udta") u) refl in
+            (ap (λ (x : Chunk). x ∷ []) (same c one), ap (λ (x : Chunk). x ∷ []) (same (edit_carrier udta user_items e c) one), again.0)
+        here false u again = (h.0.0, h.0.1, again.1)
+
+        go : (t : Bool) → is_padding c.id ≡ t → FixedCells (map cell_of cs) × FixedCells (first_cell udta (edit_carrier udta user_items e) (map cell_of cs))
+            → FixedCells (cell_by c t ∷ map cell_of cs) × FixedCells (first_cell udta (edit_carrier udta user_items e) (cell_by c t ∷ map cell_of cs))
+        go true p again = ((h.0.0, same c (no_track p), again.0), (h.0.0, same c (no_track p), again.1))
+        go false p again = ((h.0.0, h.0.1, again.0), here (udta.is c) refl again)
+
+    fixed_tail : (x : Cell) (xs ys : List Cell) → FixedCells (x ∷ xs) → (FixedCells xs → FixedCells ys) → FixedCells (x ∷ ys)
+    fixed_tail (kept c) xs ys h f = (h.0, h.1, f h.2)
+    fixed_tail (gap c) xs ys h f = (h.0, h.1, f h.2)
+    fixed_tail (edited old now) xs ys h f = (h.0, h.1, f h.2)
+
+    fixed_add : (new : List Chunk) (xs : List Cell) → map g new ≡ new → FixedCells xs → FixedCells (add_last new xs)
+    fixed_add new [] n h = (refl, n, tt)
+    fixed_add new (x ∷ xs) n h = go (only_gaps (x ∷ xs)) (fixed_add new xs n)
+      where
+        go : (t : Bool) → (FixedCells xs → FixedCells (add_last new xs)) → FixedCells (cond t (edited [] new ∷ (x ∷ xs)) (x ∷ add_last new xs))
+        go true again = (refl, n, h)
+        go false again = fixed_tail x xs (add_last new xs) h again
+
+    fixed_new : (items : List Chunk) (xs : List Cell) → FixedCells xs → FixedCells (add_new (fresh udta items) xs)
+    fixed_new [] xs h = h
+    fixed_new (c ∷ cs) xs h = fixed_add (fresh udta (c ∷ cs)) xs (ap (λ (x : Chunk). x ∷ []) (same (udta.fresh (c ∷ cs)) refl)) h
+
+    pub fixed_carried : (e : List (Item Text)) (cs : List Chunk) → AllByRecursion (λ c. (lacks_pad c ≡ false) × Alike c (g c)) cs → FixedCells (carried udta user_items e (map cell_of cs))
+    fixed_carried [] cs h = (fixed_first [] cs h).0
+    fixed_carried (i ∷ e) cs h = go (has_carrier udta (flat_map Rattle.container_model.specs.Units.live (map cell_of cs)))
+      where
+        go : (t : Bool) → FixedCells (carry_by udta user_items (i ∷ e) (map cell_of cs) t)
+        go true = (fixed_first (i ∷ e) cs h).1
+        go false = fixed_new (put_all user_items (i ∷ e) []) (map cell_of cs) (fixed_first [] cs h).0

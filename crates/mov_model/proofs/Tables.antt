@@ -1,0 +1,405 @@
+-- A relocated track: the same tables, but for the places of chunks, and these are the changed ones.
+use Rattle.std.proofs.Common.{◌≡◌, ℕ, zero, suc, ◌+◌, ◌*◌, ◌^◌, ◌<◌, ◌≤◌, Bool, true, false, ltb, List, [], ◌∷◌, ◌++◌, length, map, take, drop, Option, Some, None, refl, sym, ap, subst, ◌∙◌, arith}
+use Rattle.std.specs.Prelude.{codes}
+use Rattle.std.specs.List.{flat_map, AllByRecursion}
+use Rattle.std.specs.Int.{w32, from_be_bytes}
+use Rattle.std.proofs.lemmas.Bool.{ltb-false, ltb-true, le-ltb}
+use Rattle.std.proofs.lemmas.Nat.{be_bytes_4, be_bytes_8, from_be_bytes-to_be_bytes_4, from_be_bytes-to_be_bytes_8}
+use Rattle.std.proofs.lemmas.List.{length-append, length-take, length-drop, take_at, drop_at, take_all, drop_all, take-append-drop, drop-drop, append-nil}
+use Rattle.container_model.specs.Chunk.{Chunk}
+use Rattle.container_model.specs.Deep.{mend_at, mend, Whole, Leaf, stands, leaves, tokens}
+use Rattle.container_model.proofs.Codec.{IsBytes, IsBytes-drop}
+use Rattle.container_model.proofs.Fronts.{IsBytes-take}
+use Rattle.container_model.proofs.Atoms.{atoms_give_back}
+use Rattle.container_model.proofs.Moved.{atom_moves}
+use Rattle.container_model.proofs.Deep.{Alike, mend_alike, mend_leaves, mend_tokens, mend_whole, mend_same}
+use Rattle.container_model.proofs.Items.{same_true}
+use Rattle.mov_model.specs.Atoms.{Place, moov, trak, mdia, minf, stbl, dinf, is, opens, format}
+use Rattle.mov_model.specs.Tables.{LongOther, in_dinf, references, Width, four, eight, numbers, changed_by, changed, count, rows, with_rows, places_in, LongRows, FitsRows, moved_body, moved_leaf, relocated, in_stbl, tables, places, runs_in, sizes_in, samples}
+use Rattle.mov_model.specs.Edited.{blank_rows, look_table, look}
+
+-- a width whose numbers are spelled in so many bytes, below a bound read as they were
+pub record Spells (w : Width) (bound : ℕ) : Type 0 where
+  pub put_len : (n : ℕ) → length (w.put n) ≡ w.bytes
+  pub get_put : (n : ℕ) → n < bound → w.get (w.put n) ≡ n
+  pub put_get : (b : List ℕ) → length b ≡ w.bytes → IsBytes b → w.put (w.get b) ≡ b
+
+pub four_spells : Spells four (2 ^ 32)
+four_spells = record { put_len = λ n. refl; get_put = λ n lt. from_be_bytes-to_be_bytes_4 n lt; put_get = λ b l h. be_bytes_4 b _ l h refl }
+
+pub eight_spells : Spells eight (2 ^ 64)
+eight_spells = record { put_len = λ n. refl; get_put = λ n lt. from_be_bytes-to_be_bytes_8 n lt; put_get = λ b l h. be_bytes_8 b _ l h refl }
+
+module _ (w : Width) (bound : ℕ) (sp : Spells w bound) (f : ℕ → ℕ) where
+  changed_len : (k : ℕ) (b : List ℕ) → length (changed w f k b) ≡ length b
+  changed_len zero b = refl
+  changed_len (suc k) b = go (ltb (length b) w.bytes) refl (changed_len k (drop w.bytes b))
+    where
+      go : (t : Bool) → ltb (length b) w.bytes ≡ t → length (changed w f k (drop w.bytes b)) ≡ length (drop w.bytes b) → length (changed_by w f b (changed w f k (drop w.bytes b)) t) ≡ length b
+      go true e again = refl
+      go false e again = omega (arith, ltb-false _ _ e, again, length-drop w.bytes b, length-append (w.put (f (w.get (take w.bytes b)))) (changed w f k (drop w.bytes b)), sp.put_len (f (w.get (take w.bytes b))))
+
+  short_drop : (k : ℕ) (b : List ℕ) → length b < w.bytes → drop (w.bytes * suc k) b ≡ []
+  short_drop k b lt = drop_all (w.bytes * suc k) b (omega (arith, more k))
+    where
+      more : (k : ℕ) → w.bytes ≤ w.bytes * suc k
+      more k = omega arith
+
+  changed_behind : (k : ℕ) (b : List ℕ) → drop (w.bytes * k) (changed w f k b) ≡ drop (w.bytes * k) b
+  changed_behind zero b = refl
+  changed_behind (suc k) b = go (ltb (length b) w.bytes) refl (changed_behind k (drop w.bytes b))
+    where
+      step : w.bytes * suc k ≡ w.bytes + w.bytes * k
+      step = omega arith
+
+      go : (t : Bool) → ltb (length b) w.bytes ≡ t → drop (w.bytes * k) (changed w f k (drop w.bytes b)) ≡ drop (w.bytes * k) (drop w.bytes b)
+          → drop (w.bytes * suc k) (changed_by w f b (changed w f k (drop w.bytes b)) t) ≡ drop (w.bytes * suc k) b
+      go true e again = refl
+      go false e again =
+          let n = w.put (f (w.get (take w.bytes b))) in
+          let x = changed w f k (drop w.bytes b) in
+          ap (λ (j : ℕ). drop j (n ++ x)) step ∙ sym (drop-drop (w.bytes * k) w.bytes (n ++ x)) ∙ ap (drop (w.bytes * k)) (drop_at n x w.bytes (sp.put_len (f (w.get (take w.bytes b)))))
+          ∙ again ∙ drop-drop (w.bytes * k) w.bytes b ∙ ap (λ (j : ℕ). drop j b) (sym step)
+
+  -- the changed rows
+  changed_numbers : (k : ℕ) (b : List ℕ) → w.bytes * k ≤ length b → AllByRecursion (λ p. f p < bound) (numbers w k b) → numbers w k (changed w f k b) ≡ map f (numbers w k b)
+  changed_numbers zero b le h = refl
+  changed_numbers (suc k) b le h =
+      let n = f (w.get (take w.bytes b)) in
+      let x = changed w f k (drop w.bytes b) in
+      let step : w.bytes * suc k ≡ w.bytes + w.bytes * k = omega arith in
+      let long : ltb (length b) w.bytes ≡ false = le-ltb _ _ (omega (arith, step)) in
+      let again = changed_numbers k (drop w.bytes b) (omega (arith, step, length-drop w.bytes b)) h.1 in
+      let one : numbers w (suc k) (w.put n ++ x) ≡ n ∷ map f (numbers w k (drop w.bytes b)) = rw (take_at (w.put n) x w.bytes (sp.put_len n), drop_at (w.put n) x w.bytes (sp.put_len n), sp.get_put n h.0, again) refl in
+      ap (λ (t : Bool). numbers w (suc k) (changed_by w f b x t)) long ∙ one
+
+  -- ---- a table
+
+  rows_len : (c : Chunk) → length (with_rows w f c) ≡ length c.body
+  rows_len c = omega (arith, length-append (take 8 c.body) (changed w f (count c) (drop 8 c.body)), changed_len (count c) (drop 8 c.body), length-take 8 c.body, length-drop 8 c.body)
+
+  front_same : (c : Chunk) → take 8 (with_rows w f c) ≡ take 8 c.body
+  front_same c = go (ltb (length c.body) 8) refl
+    where
+      go : (t : Bool) → ltb (length c.body) 8 ≡ t → take 8 (with_rows w f c) ≡ take 8 c.body
+      go true e =
+          let lt = ltb-true _ _ e in
+          let nil : length (changed w f (count c) (drop 8 c.body)) ≡ 0 = omega (arith, changed_len (count c) (drop 8 c.body), length-drop 8 c.body) in
+          let none : changed w f (count c) (drop 8 c.body) ≡ [] = Rattle.std.proofs.lemmas.List.nil_from_length _ nil in
+          rw (none, append-nil (take 8 c.body), take_all 8 c.body (omega arith)) (take_all 8 c.body (omega arith))
+      go false e = take_at (take 8 c.body) (changed w f (count c) (drop 8 c.body)) 8 (omega (arith, ltb-false _ _ e, length-take 8 c.body))
+
+  behind_same : (c : Chunk) → drop 8 (with_rows w f c) ≡ changed w f (count c) (drop 8 c.body)
+  behind_same c = go (ltb (length c.body) 8) refl
+    where
+      go : (t : Bool) → ltb (length c.body) 8 ≡ t → drop 8 (with_rows w f c) ≡ changed w f (count c) (drop 8 c.body)
+      go true e =
+          let lt = ltb-true _ _ e in
+          let nil : length (changed w f (count c) (drop 8 c.body)) ≡ 0 = omega (arith, changed_len (count c) (drop 8 c.body), length-drop 8 c.body) in
+          let none : changed w f (count c) (drop 8 c.body) ≡ [] = Rattle.std.proofs.lemmas.List.nil_from_length _ nil in
+          drop_all 8 (with_rows w f c) (omega (arith, rows_len c)) ∙ sym none
+      go false e = drop_at (take 8 c.body) (changed w f (count c) (drop 8 c.body)) 8 (omega (arith, ltb-false _ _ e, length-take 8 c.body))
+
+  number_of : List ℕ → ℕ
+  number_of b = from_be_bytes w32 (take 4 (drop 4 b))
+
+  take_drop : (b : List ℕ) → take 4 (drop 4 (take 8 b)) ≡ take 4 (drop 4 b)
+  take_drop [] = refl
+  take_drop (a ∷ []) = refl
+  take_drop (a ∷ (b ∷ [])) = refl
+  take_drop (a ∷ (b ∷ (c ∷ []))) = refl
+  take_drop (a ∷ (b ∷ (c ∷ (d ∷ [])))) = refl
+  take_drop (a ∷ (b ∷ (c ∷ (d ∷ (e ∷ []))))) = refl
+  take_drop (a ∷ (b ∷ (c ∷ (d ∷ (e ∷ (g ∷ [])))))) = refl
+  take_drop (a ∷ (b ∷ (c ∷ (d ∷ (e ∷ (g ∷ (h ∷ []))))))) = refl
+  take_drop (a ∷ (b ∷ (c ∷ (d ∷ (e ∷ (g ∷ (h ∷ (i ∷ x)))))))) = refl
+
+  count_same : (c : Chunk) → count (record c { body = with_rows w f c }) ≡ count c
+  count_same c = ap (from_be_bytes w32) (sym (take_drop (with_rows w f c)) ∙ ap (λ (x : List ℕ). take 4 (drop 4 x)) (front_same c) ∙ take_drop c.body)
+
+  rows_changed : (c : Chunk) → 8 + w.bytes * count c ≤ length c.body → AllByRecursion (λ p. f p < bound) (rows w c) → rows w (record c { body = with_rows w f c }) ≡ map f (rows w c)
+  rows_changed c long h =
+      rw (count_same c, behind_same c) (changed_numbers (count c) (drop 8 c.body) (omega (arith, length-drop 8 c.body)) h)
+
+  -- the rows are not looked at
+  blank_same : (c : Chunk) → blank_rows w (record c { body = with_rows w f c }) ≡ blank_rows w c
+  blank_same c =
+      let n = w.bytes * count c in
+      let tail : drop (8 + n) (with_rows w f c) ≡ drop (8 + n) c.body = sym (drop-drop n 8 (with_rows w f c)) ∙ ap (drop n) (behind_same c) ∙ changed_behind (count c) (drop 8 c.body) ∙ drop-drop n 8 c.body in
+      rw (count_same c, front_same c, tail) refl
+
+module _ (w : Width) (bound : ℕ) (sp : Spells w bound) (f : ℕ → ℕ) (copied : (p : ℕ) → f p ≡ p) where
+  changed_none : (k : ℕ) (b : List ℕ) → IsBytes b → changed w f k b ≡ b
+  changed_none zero b bytes = refl
+  changed_none (suc k) b bytes = go (ltb (length b) w.bytes) refl (changed_none k (drop w.bytes b) (IsBytes-drop w.bytes b bytes))
+    where
+      go : (t : Bool) → ltb (length b) w.bytes ≡ t → changed w f k (drop w.bytes b) ≡ drop w.bytes b → changed_by w f b (changed w f k (drop w.bytes b)) t ≡ b
+      go true e again = refl
+      go false e again =
+          let len : length (take w.bytes b) ≡ w.bytes = omega (arith, ltb-false _ _ e, length-take w.bytes b) in
+          ap (λ (x : List ℕ). w.put (f (w.get (take w.bytes b))) ++ x) again
+          ∙ ap (λ (n : ℕ). w.put n ++ drop w.bytes b) (copied (w.get (take w.bytes b)))
+          ∙ ap (λ (x : List ℕ). x ++ drop w.bytes b) (sp.put_get (take w.bytes b) len (IsBytes-take w.bytes b bytes)) ∙ take-append-drop w.bytes b
+
+  rows_none : (c : Chunk) → IsBytes c.body → with_rows w f c ≡ c.body
+  rows_none c bytes = ap (λ (x : List ℕ). take 8 c.body ++ x) (changed_none (count c) (drop 8 c.body) (IsBytes-drop 8 c.body bytes)) ∙ take-append-drop 8 c.body
+
+-- ---- tables, by their identifiers
+
+-- a table of 32-bit places, of 64-bit places, or another
+data Kind (c : Chunk) : Type 0 where
+  is_stco : c.id ≡ codes "stco" → Kind c
+  is_co64 : c.id ≡ codes "co64" → Kind c
+  is_other : is c (codes "stco") ≡ false → is c (codes "co64") ≡ false → Kind c
+
+kind : (c : Chunk) → Kind c
+kind c = go (is c (codes "stco")) (is c (codes "co64")) refl refl
+  where
+    go : (t u : Bool) → is c (codes "stco") ≡ t → is c (codes "co64") ≡ u → Kind c
+    go true u e i = is_stco (same_true c.id (codes "stco") e)
+    go false true e i = is_co64 (same_true c.id (codes "co64") i)
+    go false false e i = is_other e i
+
+module _ (f : ℕ → ℕ) where
+  abbrev pub moved_table : Chunk → Chunk
+  moved_table c = record c { body = moved_body f c }
+
+  body_four : (c : Chunk) → c.id ≡ codes "stco" → moved_body f c ≡ with_rows four f c
+  body_four c e = rw e refl
+
+  body_eight : (c : Chunk) → c.id ≡ codes "co64" → moved_body f c ≡ with_rows eight f c
+  body_eight c e = rw e refl
+
+  body_other : (c : Chunk) → is c (codes "stco") ≡ false → is c (codes "co64") ≡ false → moved_body f c ≡ c.body
+  body_other c e i = rw (e, i) refl
+
+  body_len : (c : Chunk) → length (moved_body f c) ≡ length c.body
+  body_len c = go (kind c)
+    where
+      go : Kind c → length (moved_body f c) ≡ length c.body
+      go (is_stco e) = rw (body_four c e) (rows_len four (2 ^ 32) four_spells f c)
+      go (is_co64 e) = rw (body_eight c e) (rows_len eight (2 ^ 64) eight_spells f c)
+      go (is_other e i) = rw (body_other c e i) refl
+
+  look_same : (c : Chunk) → look_table (moved_table c) ≡ look_table c
+  look_same c = go (kind c)
+    where
+      go : Kind c → look_table (moved_table c) ≡ look_table c
+      go (is_stco e) = rw (body_four c e, e) (blank_same four (2 ^ 32) four_spells f c)
+      go (is_co64 e) = rw (body_eight c e, e) (blank_same eight (2 ^ 64) eight_spells f c)
+      go (is_other e i) = rw (body_other c e i) refl
+
+  keeps : (p : Place) (c : Chunk) → length (moved_leaf f p c) ≡ length c.body
+  keeps moov c = refl
+  keeps trak c = refl
+  keeps mdia c = refl
+  keeps minf c = refl
+  keeps dinf c = refl
+  keeps stbl c = body_len c
+
+  unseen : (p : Place) (c : Chunk) → look p (record c { body = moved_leaf f p c }) ≡ look p c
+  unseen moov c = refl
+  unseen trak c = refl
+  unseen mdia c = refl
+  unseen minf c = refl
+  unseen dinf c = refl
+  unseen stbl c = look_same c
+
+  -- ---- the atoms that are opened
+
+  at_id : (g : Place → Chunk → Chunk) (p : Place) (c : Chunk) (o : Option Place) → (mend_at format (moved_leaf f) g p c o).id ≡ c.id
+  at_id g p c None = refl
+  at_id g p c (Some q) = refl
+
+  mend_id : (d : ℕ) (p : Place) (c : Chunk) → (mend format (moved_leaf f) d p c).id ≡ c.id
+  unfolding mend
+  mend_id zero p c = refl
+  mend_id (suc d) p c = at_id (mend format (moved_leaf f) d) p c (opens p c.id (take 4 c.body))
+
+  opens_by_id : (p : Place) (a b x y : List ℕ) → a ≡ b → opens p a x ≡ opens p b y
+  opens_by_id moov a b x y e = rw e refl
+  opens_by_id trak a b x y e = rw e refl
+  opens_by_id mdia a b x y e = rw e refl
+  opens_by_id minf a b x y e = rw e refl
+  opens_by_id stbl a b x y e = refl
+  opens_by_id dinf a b x y e = refl
+
+  opens_again : (d : ℕ) (p : Place) (c : Chunk) → Whole format d p c → IsBytes c.body
+      → opens p (mend format (moved_leaf f) d p c).id (take 4 (mend format (moved_leaf f) d p c).body) ≡ opens p c.id (take 4 c.body)
+  opens_again d p c w b = opens_by_id p _ c.id _ _ (mend_id d p c)
+
+  pub relocated_id : (c : Chunk) → (relocated f c).id ≡ c.id
+  relocated_id c = mend_id 5 moov c
+
+  at_pad : (g : Place → Chunk → Chunk) (p : Place) (c : Chunk) (o : Option Place) → mend_at format (moved_leaf f) g p (record c { pad = [] }) o ≡ record (mend_at format (moved_leaf f) g p c o) { pad = [] }
+  at_pad g moov c None = refl
+  at_pad g trak c None = refl
+  at_pad g mdia c None = refl
+  at_pad g minf c None = refl
+  at_pad g dinf c None = refl
+  at_pad g stbl c None = refl
+  at_pad g p c (Some q) = refl
+
+  -- the pad is not looked at
+  pub relocated_pad : (c : Chunk) → relocated f (record c { pad = [] }) ≡ record (relocated f c) { pad = [] }
+  unfolding mend
+  relocated_pad c = at_pad (mend format (moved_leaf f) 4) moov c (opens moov c.id (take 4 c.body))
+
+  -- what is no track stays
+  pub relocated_other : (c : Chunk) → is c (codes "trak") ≡ false → relocated f c ≡ c
+  unfolding mend
+  relocated_other c e = rw e refl
+
+  pub relocated_alike : (c : Chunk) → Whole format 5 moov c → IsBytes c.body → Alike c (relocated f c)
+  relocated_alike c w b = mend_alike format atoms_give_back atom_moves (moved_leaf f) keeps 5 moov c w b
+
+  pub relocated_tokens : (c : Chunk) → Whole format 5 moov c → IsBytes c.body → tokens format look 5 moov (relocated f c) ≡ tokens format look 5 moov c
+  relocated_tokens c w b = mend_tokens format atoms_give_back atom_moves (moved_leaf f) keeps look unseen opens_again 5 moov c w b
+
+  abbrev leaf_tables : List (Leaf Place) → List Chunk
+  leaf_tables ls = flat_map (λ (l : Leaf Place). in_stbl l.place l.chunk) ls
+
+  map-tables : (a b : List Chunk) → map moved_table (a ++ b) ≡ map moved_table a ++ map moved_table b
+  map-tables [] b = refl
+  map-tables (c ∷ a) b = ap (λ (x : List Chunk). moved_table c ∷ x) (map-tables a b)
+
+  one_table : (p : Place) (c : Chunk) → in_stbl p (record c { body = moved_leaf f p c }) ≡ map moved_table (in_stbl p c)
+  one_table moov c = refl
+  one_table trak c = refl
+  one_table mdia c = refl
+  one_table minf c = refl
+  one_table dinf c = refl
+  one_table stbl c = refl
+
+  all_tables : (ls : List (Leaf Place)) → leaf_tables (map (λ (l : Leaf Place). stands l.place (record l.chunk { body = moved_leaf f l.place l.chunk })) ls) ≡ map moved_table (leaf_tables ls)
+  all_tables [] = refl
+  all_tables (l ∷ ls) = rw (one_table l.place l.chunk, all_tables ls) (sym (map-tables (in_stbl l.place l.chunk) (leaf_tables ls)))
+
+  -- The tables of a relocated track are its tables with their places changed.
+  pub relocated_tables : (c : Chunk) → Whole format 5 moov c → IsBytes c.body → tables (relocated f c) ≡ map moved_table (tables c)
+  relocated_tables c w b = ap leaf_tables (mend_leaves format atoms_give_back atom_moves (moved_leaf f) keeps opens_again 5 moov c w b) ∙ all_tables (leaves format 5 moov c)
+
+  -- ---- what the tables say
+
+  moved_places : (c : Chunk) → LongRows c → FitsRows f c → places_in (moved_table c) ≡ map f (places_in c)
+  moved_places c long fits = go (kind c)
+    where
+      go : Kind c → places_in (moved_table c) ≡ map f (places_in c)
+      go (is_stco e) = let yes : is c (codes "stco") ≡ true = rw e refl in rw (body_four c e, e) (rows_changed four (2 ^ 32) four_spells f c (long.0 yes) (fits.0 yes))
+      go (is_co64 e) = let yes : is c (codes "co64") ≡ true = rw e refl in rw (body_eight c e, e) (rows_changed eight (2 ^ 64) eight_spells f c (long.1 yes) (fits.1 yes))
+      go (is_other e i) = rw (e, i) refl
+
+  map-numbers : (a b : List ℕ) → map f (a ++ b) ≡ map f a ++ map f b
+  map-numbers [] b = refl
+  map-numbers (x ∷ a) b = ap (λ (y : List ℕ). f x ∷ y) (map-numbers a b)
+
+  pub places_moved : (ts : List Chunk) → AllByRecursion LongRows ts → AllByRecursion (FitsRows f) ts → places (map moved_table ts) ≡ map f (places ts)
+  places_moved [] l h = refl
+  places_moved (c ∷ ts) l h = rw (moved_places c l.0 h.0, places_moved ts l.1 h.1) (sym (map-numbers (places_in c) (places ts)))
+
+  runs_same : (c : Chunk) → runs_in (moved_table c) ≡ runs_in c
+  runs_same c = go (kind c)
+    where
+      go : Kind c → runs_in (moved_table c) ≡ runs_in c
+      go (is_stco e) = rw e refl
+      go (is_co64 e) = rw e refl
+      go (is_other e i) = rw (body_other c e i) refl
+
+  sizes_same : (c : Chunk) → sizes_in (moved_table c) ≡ sizes_in c
+  sizes_same c = go (kind c)
+    where
+      go : Kind c → sizes_in (moved_table c) ≡ sizes_in c
+      go (is_stco e) = rw e refl
+      go (is_co64 e) = rw e refl
+      go (is_other e i) = rw (body_other c e i) refl
+
+  runs_all : (ts : List Chunk) → flat_map runs_in (map moved_table ts) ≡ flat_map runs_in ts
+  runs_all [] = refl
+  runs_all (c ∷ ts) = rw (runs_same c, runs_all ts) refl
+
+  sizes_all : (ts : List Chunk) → flat_map sizes_in (map moved_table ts) ≡ flat_map sizes_in ts
+  sizes_all [] = refl
+  sizes_all (c ∷ ts) = rw (sizes_same c, sizes_all ts) refl
+
+  -- the samples are told by the same tables
+  pub samples_moved : (ts : List Chunk) (tails : List (List ℕ)) → samples (map moved_table ts) tails ≡ samples ts tails
+  samples_moved ts tails = rw (runs_all ts, sizes_all ts) refl
+
+  -- ---- what is asked of tables
+
+  pub relocated_whole : (c : Chunk) → Whole format 5 moov c → IsBytes c.body → Whole format 5 moov (relocated f c)
+  relocated_whole c w b = mend_whole format atoms_give_back atom_moves (moved_leaf f) keeps opens_again 5 moov c w b
+
+  abbrev leaf_references : List (Leaf Place) → List Chunk
+  leaf_references ls = flat_map (λ (l : Leaf Place). in_dinf l.place l.chunk) ls
+
+  one_reference : (p : Place) (c : Chunk) → in_dinf p (record c { body = moved_leaf f p c }) ≡ in_dinf p c
+  one_reference moov c = refl
+  one_reference trak c = refl
+  one_reference mdia c = refl
+  one_reference minf c = refl
+  one_reference dinf c = refl
+  one_reference stbl c = refl
+
+  all_references : (ls : List (Leaf Place)) → leaf_references (map (λ (l : Leaf Place). stands l.place (record l.chunk { body = moved_leaf f l.place l.chunk })) ls) ≡ leaf_references ls
+  all_references [] = refl
+  all_references (l ∷ ls) = rw (one_reference l.place l.chunk, all_references ls) refl
+
+  pub relocated_references : (c : Chunk) → Whole format 5 moov c → IsBytes c.body → references (relocated f c) ≡ references c
+  relocated_references c w b = ap leaf_references (mend_leaves format atoms_give_back atom_moves (moved_leaf f) keeps opens_again 5 moov c w b) ∙ all_references (leaves format 5 moov c)
+
+  moved_count : (c : Chunk) → count (moved_table c) ≡ count c
+  moved_count c = go (kind c)
+    where
+      go : Kind c → count (moved_table c) ≡ count c
+      go (is_stco e) = ap (λ (b : List ℕ). count (record c { body = b })) (body_four c e) ∙ count_same four (2 ^ 32) four_spells f c
+      go (is_co64 e) = ap (λ (b : List ℕ). count (record c { body = b })) (body_eight c e) ∙ count_same eight (2 ^ 64) eight_spells f c
+      go (is_other e i) = ap (λ (b : List ℕ). count (record c { body = b })) (body_other c e i)
+
+  pub long_moved : (c : Chunk) → LongRows c → LongRows (moved_table c)
+  long_moved c h = (λ e. rw (moved_count c, body_len c) (h.0 e), λ e. rw (moved_count c, body_len c) (h.1 e))
+
+  other_moved : (c : Chunk) → LongOther c → LongOther (moved_table c)
+  other_moved c h = go (kind c)
+    where
+      same : moved_body f c ≡ c.body → LongOther (moved_table c)
+      same e = subst (λ (b : List ℕ). LongOther (record c { body = b })) (sym e) h
+
+      go : Kind c → LongOther (moved_table c)
+      go (is_stco e) = let no : is c (codes "stsc") ≡ false = rw e refl in let none : is c (codes "stsz") ≡ false = rw e refl in (λ i. absurd cc, λ i. absurd cc)
+      go (is_co64 e) = let no : is c (codes "stsc") ≡ false = rw e refl in let none : is c (codes "stsz") ≡ false = rw e refl in (λ i. absurd cc, λ i. absurd cc)
+      go (is_other e i) = same (body_other c e i)
+
+  pub long_all : (ts : List Chunk) → AllByRecursion LongRows ts → AllByRecursion LongRows (map moved_table ts)
+  long_all [] h = tt
+  long_all (c ∷ ts) h = (long_moved c h.0, long_all ts h.1)
+
+  pub others_all : (ts : List Chunk) → AllByRecursion LongOther ts → AllByRecursion LongOther (map moved_table ts)
+  others_all [] h = tt
+  others_all (c ∷ ts) h = (other_moved c h.0, others_all ts h.1)
+
+  pub ids_moved : (ts : List Chunk) → map (λ (c : Chunk). c.id) (map moved_table ts) ≡ map (λ (c : Chunk). c.id) ts
+  ids_moved [] = refl
+  ids_moved (c ∷ ts) = ap (λ (x : List (List ℕ)). c.id ∷ x) (ids_moved ts)
+
+  -- ---- where no place changes
+
+  module _ (copied : (p : ℕ) → f p ≡ p) where
+    body_none : (c : Chunk) → IsBytes c.body → moved_body f c ≡ c.body
+    body_none c bytes = go (kind c)
+      where
+        go : Kind c → moved_body f c ≡ c.body
+        go (is_stco e) = body_four c e ∙ rows_none four (2 ^ 32) four_spells f copied c bytes
+        go (is_co64 e) = body_eight c e ∙ rows_none eight (2 ^ 64) eight_spells f copied c bytes
+        go (is_other e i) = body_other c e i
+
+    leaf_none : (p : Place) (c : Chunk) → IsBytes c.body → moved_leaf f p c ≡ c.body
+    leaf_none moov c bytes = refl
+    leaf_none trak c bytes = refl
+    leaf_none mdia c bytes = refl
+    leaf_none minf c bytes = refl
+    leaf_none dinf c bytes = refl
+    leaf_none stbl c bytes = body_none c bytes
+
+    pub relocated_none : (c : Chunk) → Whole format 5 moov c → IsBytes c.body → relocated f c ≡ c
+    relocated_none c w b = mend_same format atoms_give_back atom_moves (moved_leaf f) keeps leaf_none 5 moov c w b

@@ -1,0 +1,133 @@
+-- User items and user data are read as they are made.
+use Rattle.std.proofs.Common.{◌≡◌, ℕ, zero, suc, ◌+◌, ◌^◌, ◌<◌, Bool, true, false, cond, ltb, List, [], ◌∷◌, ◌++◌, length, map, take, drop, Option, Some, None, refl, sym, ap, ◌∙◌, arith, inl}
+use Rattle.std.specs.List.{AllByRecursion}
+use Rattle.std.specs.Int.{w16, to_be_bytes}
+use Rattle.std.proofs.lemmas.Bool.{le-ltb}
+use Rattle.std.proofs.lemmas.Nat.{from_be_bytes-to_be_bytes_2}
+use Rattle.std.proofs.lemmas.List.{length-append, take_at, drop_at, append-nil}
+use Rattle.container_model.specs.Chunk.{Chunk, Run, too_short, ends, spell_all, chunks}
+use Rattle.container_model.specs.Sizes.{Level, user, atom_front}
+use Rattle.container_model.specs.Items.{Item, put_all, values, item_token, IsMade, AreMade, edit_carrier, OpensAs, Rereads}
+use Rattle.container_model.proofs.Codec.{IsBytes, chunks_spelled, chunks_read, chunks_joined}
+use Rattle.container_model.proofs.Atoms.{short_head, atoms_give_back}
+use Rattle.container_model.proofs.Read.{Atom, atoms_read, atoms_again}
+use Rattle.container_model.proofs.Items.{all_after}
+use Rattle.mov_model.specs.Atoms.{atom}
+use Rattle.mov_model.specs.User.{Text, text_size, with_text, text_then, texts_in, found, texts, text_bytes, is_user_type, IsUserValue, user_items, udta}
+
+-- one text is read as it is written
+text_read : (t : Text) → length t.language ≡ 2 → length t.text < 2 ^ 16 → texts (text_bytes t) ≡ t ∷ []
+text_read t l lt =
+    let n = length t.text in
+    let b = text_bytes t in
+    let len : length b ≡ 4 + n = omega (arith, length-append (to_be_bytes w16 n) (t.language ++ t.text), length-append t.language t.text) in
+    let size : text_size b ≡ n = from_be_bytes-to_be_bytes_2 n lt in
+    let fits : ltb (length b) (4 + n) ≡ false = le-ltb _ _ (omega (arith, len)) in
+    let lang : take 2 (drop 2 b) ≡ t.language = take_at t.language t.text 2 l in
+    let split : drop 4 b ≡ t.text = drop_at (to_be_bytes w16 n ++ t.language) t.text 4 (omega (arith, length-append (to_be_bytes w16 n) t.language)) in
+    go b n len size fits lang split
+  where
+    all : (x : List ℕ) → take (length x) x ≡ x
+    all x = Rattle.std.proofs.lemmas.List.take_all (length x) x (omega arith)
+
+    none : (x : List ℕ) → drop (length x) x ≡ []
+    none x = Rattle.std.proofs.lemmas.List.drop_all (length x) x (omega arith)
+
+    last : (k : ℕ) → found (with_text t (texts_in k [])) ≡ t ∷ []
+    last zero = refl
+    last (suc k) = refl
+
+    made : (k : ℕ) (lang text rest : List ℕ) → lang ≡ t.language → text ≡ t.text → rest ≡ [] → found (with_text (record { language = lang; text = text }) (texts_in k rest)) ≡ t ∷ []
+    made k lang text rest e i j = rw (e, i, j) (last k)
+
+    go : (b : List ℕ) (n : ℕ) → length b ≡ 4 + n → text_size b ≡ n → ltb (length b) (4 + n) ≡ false → take 2 (drop 2 b) ≡ t.language → drop 4 b ≡ t.text → found (texts_in (length b) b) ≡ t ∷ []
+    go [] n len size fits lang split = absurd (omega (arith, len))
+    go (x ∷ b) n len size fits lang split =
+        let long : ltb (length (x ∷ b)) (4 + text_size (x ∷ b)) ≡ false = ap (λ (m : ℕ). ltb (length (x ∷ b)) (4 + m)) size ∙ fits in
+        let same : n ≡ length t.text = omega (arith, len, ap length split, Rattle.std.proofs.lemmas.List.length-drop 4 (x ∷ b)) in
+        let text : take (text_size (x ∷ b)) (drop 4 (x ∷ b)) ≡ t.text = ap (λ (m : ℕ). take m (drop 4 (x ∷ b))) (size ∙ same) ∙ ap (take (length t.text)) split ∙ all t.text in
+        let rest : drop (text_size (x ∷ b)) (drop 4 (x ∷ b)) ≡ [] = ap (λ (m : ℕ). drop m (drop 4 (x ∷ b))) (size ∙ same) ∙ ap (drop (length t.text)) split ∙ none t.text in
+        ap (λ (u : Bool). found (text_then (texts_in (length b)) (x ∷ b) u)) long ∙ made (length b) (take 2 (drop 2 (x ∷ b))) (take (text_size (x ∷ b)) (drop 4 (x ∷ b))) (drop (text_size (x ∷ b)) (drop 4 (x ∷ b))) lang text rest
+
+-- ---- what an edit may set
+
+-- a type of user items, a language of two bytes, and a text whose length fits
+abbrev pub SetsUser : Item Text → Type 0
+SetsUser i = IsUserValue i.name i.value
+
+pub user_made : (name : List ℕ) (value : Option Text) → IsUserValue name value → IsMade user_items name value
+user_made name None h = tt
+user_made name (Some t) h = (refl, cond_is (is_user_type name) h.0 (text_read t h.1 h.2))
+  where
+    cond_is : (b : Bool) → b ≡ true → texts (text_bytes t) ≡ t ∷ [] → cond b (texts (text_bytes t)) [] ≡ t ∷ []
+    cond_is true e h = h
+    cond_is false e h = absurd cc
+
+user_len : (id : List ℕ) → is_user_type id ≡ true → length id ≡ 4
+user_len [] h = absurd cc
+user_len (a ∷ []) h = absurd cc
+user_len (a ∷ (b ∷ [])) h = absurd cc
+user_len (a ∷ (b ∷ (c ∷ []))) h = absurd cc
+user_len (a ∷ (b ∷ (c ∷ (d ∷ [])))) h = refl
+user_len (a ∷ (b ∷ (c ∷ (d ∷ (x ∷ xs))))) h = absurd cc
+
+-- a new atom is read in every place
+pub atom_made : (s : Level) (id body : List ℕ) → length id ≡ 4 → length body + 8 < 2 ^ 32 → Atom s (atom id body)
+atom_made s id body l lt = record { head = short_head s (atom id body) refl l lt; no_pad = refl; pad_none = refl; id_len = l; short_or_long = inl refl }
+
+pub user_atom : (name : List ℕ) (t : Text) → IsUserValue name (Some t) → Atom user (atom name (text_bytes t))
+user_atom name t h =
+    atom_made user name (text_bytes t) (user_len name h.0) (omega (arith, length-append (to_be_bytes w16 (length t.text)) (t.language ++ t.text), length-append t.language t.text, h.1, h.2))
+
+pub all_made : (e : List (Item Text)) → AllByRecursion SetsUser e → AreMade user_items e
+all_made [] h = tt
+all_made (i ∷ e) h = (user_made i.name i.value h.0, all_made e h.1)
+
+-- ---- user data
+
+good_items : (e : List (Item Text)) → AllByRecursion SetsUser e → AllByRecursion (λ i. Rattle.container_model.proofs.Items.MakesGood user_items (Atom user) i.name i.value) e
+good_items [] h = tt
+good_items (i ∷ e) h = (one i.name i.value h.0, good_items e h.1)
+  where
+    one : (name : List ℕ) (value : Option Text) → IsUserValue name value → Rattle.container_model.proofs.Items.MakesGood user_items (Atom user) name value
+    one name None h = tt
+    one name (Some t) h = user_atom name t h
+
+-- the items of user data that was read, and its rest
+pub items_read : (c : Chunk) → IsBytes c.body → (udta.opening c).stop ≡ ends → AllByRecursion (Atom user) (udta.opening c).chunks × (atom_front user (udta.opening c).left ≡ too_short)
+items_read c bytes whole =
+    let r = udta.opening c in
+    let joined : spell_all r.chunks ++ r.left ≡ c.body = chunks_joined atom_front atoms_give_back user c.body bytes in
+    atoms_read user r.chunks r.left (λ e. absurd cc) (rw joined bytes) (chunks_read atom_front atoms_give_back user c.body bytes whole)
+
+pub items_again : (items : List Chunk) (rest : List ℕ) → AllByRecursion (Atom user) items → atom_front user rest ≡ too_short → chunks atom_front user (spell_all items ++ rest) ≡ record { chunks = items; stop = ends; left = rest }
+items_again items rest h r = chunks_spelled atom_front user items rest (atoms_again user items rest h r)
+
+-- edited user data is read as its items with the edit, and its rest
+pub edited_again : (e : List (Item Text)) (c : Chunk) → AllByRecursion SetsUser e → IsBytes c.body → (udta.opening c).stop ≡ ends
+    → udta.opening (edit_carrier udta user_items e c) ≡ record { chunks = put_all user_items e (udta.opening c).chunks; stop = ends; left = (udta.opening c).left }
+edited_again e c h bytes whole =
+    let r = items_read c bytes whole in
+    items_again (put_all user_items e (udta.opening c).chunks) (udta.opening c).left (all_after user_items (Atom user) e (udta.opening c).chunks (good_items e h) r.0) r.1
+
+pub fresh_again : (e : List (Item Text)) → AllByRecursion SetsUser e
+    → udta.opening (udta.fresh (put_all user_items e [])) ≡ record { chunks = put_all user_items e []; stop = ends; left = [] }
+fresh_again e h =
+    let items = put_all user_items e [] in
+    ap (chunks atom_front user) (sym (append-nil (spell_all items))) ∙ items_again items [] (all_after user_items (Atom user) e [] (good_items e h) tt) refl
+
+-- User data keeps the law of carriers.
+pub udta_rereads : Rereads udta user_items (AllByRecursion SetsUser) (λ e c. ((udta.opening c).stop ≡ ends) × IsBytes c.body) (λ items. Unit {0})
+udta_rereads = record {
+  sets_made = all_made;
+  edited_again = λ e c h r. as_run (edit_carrier udta user_items e c) (put_all user_items e (udta.opening c).chunks) (udta.opening c).left (edited_again e c h r.1 r.0);
+  fresh_again = λ e h s. as_run (udta.fresh (put_all user_items e [])) (put_all user_items e []) [] (fresh_again e h);
+}
+  where
+    as_run : (c : Chunk) (items : List Chunk) (rest : List ℕ) → udta.opening c ≡ record { chunks = items; stop = ends; left = rest } → OpensAs udta user_items c items rest
+    as_run c items rest e =
+        record {
+          whole = ap (λ (r : Run). r.stop) e;
+          items_same = (λ name. ap (λ (r : Run). values user_items name r.chunks) e, ap (λ (r : Run). map (item_token user_items) r.chunks) e);
+          rest_same = ap (λ (r : Run). r.left) e;
+        }

@@ -1,0 +1,57 @@
+-- The atoms that are opened, and padding.
+use Rattle.std.specs.Prelude.{ℕ, List, [], Bool, true, false, ◌||◌, codes, Option, Some, None}
+use Rattle.std.specs.Str.{bytes_eq}
+use Rattle.container_model.specs.Chunk.{short, Chunk, Run, chunks}
+use Rattle.container_model.specs.Sizes.{Level, inside, atom_front}
+use Rattle.container_model.specs.Units.{Cell, kept, gap}
+use Rattle.container_model.specs.Deep.{Format}
+
+-- what a chunk stands in
+pub data Place : Type 0 where
+  moov : Place
+  trak : Place
+  mdia : Place
+  minf : Place
+  stbl : Place
+  dinf : Place
+
+abbrev pub is : Chunk → List ℕ → Bool
+is c id = bytes_eq c.id id
+
+abbrev pub when : Bool → Place → Option Place
+when true p = Some p
+when false p = None
+
+abbrev pub either : Bool → Place → Option Place → Option Place
+either true p other = Some p
+either false p other = other
+
+-- a track's atoms are opened in their usual nesting
+abbrev pub opens : Place → List ℕ → List ℕ → Option Place
+opens moov id word = when (bytes_eq id (codes "trak")) trak
+opens trak id word = when (bytes_eq id (codes "mdia")) mdia
+opens mdia id word = when (bytes_eq id (codes "minf")) minf
+opens minf id word = either (bytes_eq id (codes "stbl")) stbl (when (bytes_eq id (codes "dinf")) dinf)
+opens stbl id word = None
+opens dinf id word = None
+
+abbrev pub format : Format Place Level
+format = record { opens = opens; prefix = λ p. 0; start = λ p. inside; front = atom_front }
+
+abbrev pub is_padding : List ℕ → Bool
+is_padding id = bytes_eq id (codes "free") || (bytes_eq id (codes "skip") || bytes_eq id (codes "wide"))
+
+abbrev pub cell_by : Chunk → Bool → Cell
+cell_by c true = gap c
+cell_by c false = kept c
+
+abbrev pub cell_of : Chunk → Cell
+cell_of c = cell_by c (is_padding c.id)
+
+-- a new atom has the short form
+abbrev pub atom : List ℕ → List ℕ → Chunk
+atom id body = record { form = short; id = id; body = body; pad = [] }
+
+-- the atoms in an atom
+abbrev pub atoms_in : Chunk → Run
+atoms_in c = chunks atom_front inside c.body

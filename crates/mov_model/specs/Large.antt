@@ -1,0 +1,51 @@
+-- What is too large: the first of these sizes that passes its limit.
+use Rattle.std.specs.Prelude.{ℕ, ◌^◌, nat_lt, List, [], ◌∷◌, ◌++◌, length, map, Bool, Option, Some, None, codes, if◌then◌else◌}
+use Rattle.std.specs.List.{flat_map}
+use Rattle.container_model.specs.Chunk.{Chunk, spell}
+use Rattle.container_model.specs.Splice.{shift}
+use Rattle.container_model.specs.Items.{Item, put_all, edit_carrier}
+use Rattle.mov_model.specs.Atoms.{is}
+use Rattle.mov_model.specs.User.{Text, user_items, udta}
+use Rattle.mov_model.specs.Tables.{four, eight, rows, tables}
+use Rattle.mov_model.specs.Movie.{Movie, has_carrier, fresh, edit_cuts, new_movie, spell_movie}
+use Rattle.mov_model.specs.Edited.{parts, first_user, tracks, count_parts}
+
+pub record Size : Type 0 where
+  pub size : ℕ
+  pub limit : ℕ
+
+abbrev pub sized : ℕ → ℕ → Size
+sized n limit = record { size = n; limit = limit }
+
+abbrev pub passes : Size → Bool
+passes s = nat_lt s.limit s.size
+
+abbrev pub first_passing : List Size → Option Size
+first_passing [] = None
+first_passing (s ∷ ss) = if passes s then Some s else first_passing ss
+
+-- the body of the user data, edited or new
+abbrev pub user_sizes : Movie → List (Item Text) → List Size
+user_sizes m e =
+    map (λ (c : Chunk). sized (length (edit_carrier udta user_items e c).body) (2 ^ 24)) (first_user (parts m))
+    ++ (if has_carrier udta (parts m) then [] else map (λ (c : Chunk). sized (length c.body) (2 ^ 24)) (fresh udta (put_all user_items e [])))
+
+-- the new places in a table
+abbrev pub row_sizes : (ℕ → ℕ) → Chunk → List Size
+row_sizes f c =
+    if is c (codes "stco") then map (λ p. sized (f p) 4294967295) (rows four c)
+    else (if is c (codes "co64") then map (λ p. sized (f p) 18446744073709551615) (rows eight c) else [])
+
+abbrev pub table_sizes : Movie → List (Item Text) → List Size
+table_sizes m e = flat_map (λ (t : Chunk). flat_map (row_sizes (shift (edit_cuts m e))) (tables t)) (tracks m)
+
+abbrev pub all_sizes : Movie → List (Item Text) → List Size
+all_sizes m e =
+    user_sizes m e
+    ++ (sized (count_parts (new_movie m e)) 65536
+    ∷ (sized (length (spell (new_movie m e).movie)) (2 ^ 26) ∷ (table_sizes m e ++ sized (length (spell_movie (new_movie m e))) 9223372036854775807 ∷ [])))
+
+-- without an item nothing is
+abbrev pub too_large : Movie → List (Item Text) → Option Size
+too_large m [] = None
+too_large m (i ∷ e) = first_passing (all_sizes m (i ∷ e))

@@ -1,0 +1,199 @@
+-- An edit of a QuickTime movie: the user data in `moov`, and the places of chunks in the tables.
+use Rattle.std.specs.Prelude.{ℕ, ◌+◌, ◌-◌, ◌^◌, nat_lt, nat_le, List, [], ◌∷◌, ◌++◌, length, map, take, drop, Bool, true, false, ◌&&◌, ◌||◌, codes, if◌then◌else◌}
+use Rattle.std.specs.List.{flat_map}
+use Rattle.container_model.specs.Chunk.{header_bytes, Chunk, spell_all, Run, chunks}
+use Rattle.container_model.specs.Sizes.{top, atom_front}
+use Rattle.container_model.specs.Splice.{Cut, shift}
+use Rattle.container_model.specs.Units.{Cell, kept, gap, edited, shut, Piece, copied, replaced, unit_bytes, Fill, units, lay, cuts, live}
+use Rattle.container_model.specs.Items.{Items, Item, Carrier, put_all, edit_carrier, is_nil}
+use Rattle.mov_model.specs.Atoms.{is, is_padding, cell_of, atom, atoms_in}
+use Rattle.mov_model.specs.User.{Text, user_items, udta}
+use Rattle.mov_model.specs.Tables.{relocated}
+
+-- ---- the edit of a carrier among cells: the first one, or a new one behind the last cell that is no padding
+
+abbrev pub has_carrier : Carrier → List Chunk → Bool
+has_carrier k [] = false
+has_carrier k (c ∷ cs) = k.is c || has_carrier k cs
+
+abbrev pub first_carrier : Carrier → (Chunk → Chunk) → List Chunk → List Chunk
+first_carrier k g [] = []
+first_carrier k g (c ∷ cs) = if k.is c then g c ∷ cs else c ∷ first_carrier k g cs
+
+abbrev pub first_cell : Carrier → (Chunk → Chunk) → List Cell → List Cell
+first_cell k g [] = []
+first_cell k g (gap c ∷ xs) = gap c ∷ first_cell k g xs
+first_cell k g (kept c ∷ xs) = if k.is c then edited (c ∷ []) (g c ∷ []) ∷ xs else kept c ∷ first_cell k g xs
+first_cell k g (edited old now ∷ xs) = edited old now ∷ first_cell k g xs
+
+abbrev pub only_gaps : List Cell → Bool
+only_gaps [] = true
+only_gaps (kept c ∷ xs) = false
+only_gaps (gap c ∷ xs) = only_gaps xs
+only_gaps (edited old now ∷ xs) = false
+
+abbrev pub add_last : List Chunk → List Cell → List Cell
+add_last new [] = edited [] new ∷ []
+add_last new (x ∷ xs) = if only_gaps (x ∷ xs) then edited [] new ∷ (x ∷ xs) else x ∷ add_last new xs
+
+-- a carrier with items, or nothing where there is none
+abbrev pub fresh : Carrier → List Chunk → List Chunk
+fresh k [] = []
+fresh k (c ∷ cs) = k.fresh (c ∷ cs) ∷ []
+
+abbrev pub add_new : List Chunk → List Cell → List Cell
+add_new [] xs = xs
+add_new (c ∷ cs) xs = add_last (c ∷ cs) xs
+
+abbrev pub carry_by : {V : Type 0} → Carrier → Items V → List (Item V) → List Cell → Bool → List Cell
+carry_by k it e xs true = first_cell k (edit_carrier k it e) xs
+carry_by k it e xs false = add_new (fresh k (put_all it e [])) xs
+
+-- without an item nothing is edited
+abbrev pub carried : {V : Type 0} → Carrier → Items V → List (Item V) → List Cell → List Cell
+carried k it [] xs = xs
+carried k it (i ∷ e) xs = carry_by k it (i ∷ e) xs (has_carrier k (flat_map live xs))
+
+-- the same of chunks
+abbrev pub edit_by : {V : Type 0} → Carrier → Items V → List (Item V) → List Chunk → Bool → List Chunk
+edit_by k it e cs true = first_carrier k (edit_carrier k it e) cs
+edit_by k it e cs false = cs ++ fresh k (put_all it e [])
+
+abbrev pub edited_chunks : {V : Type 0} → Carrier → Items V → List (Item V) → List Chunk → List Chunk
+edited_chunks k it [] cs = cs
+edited_chunks k it (i ∷ e) cs = edit_by k it (i ∷ e) cs (has_carrier k cs)
+
+-- ---- a movie
+
+pub record Movie : Type 0 where
+  pub before : List Chunk
+  pub movie : Chunk
+  pub behind : List Chunk
+  pub left : List ℕ
+
+-- the atoms of the file, with the first moov apart
+abbrev pub split_by : Chunk → List Chunk → List ℕ → Movie → Bool → Movie
+split_by c cs left m true = record { before = []; movie = c; behind = cs; left = left }
+split_by c cs left m false = record m { before = c ∷ m.before }
+
+abbrev pub split : List Chunk → List ℕ → Movie
+split [] left = record { before = []; movie = atom [] []; behind = []; left = left }
+split (c ∷ cs) left = split_by c cs left (split cs left) (is c (codes "moov"))
+
+abbrev pub all_atoms : Movie → List Chunk
+all_atoms m = m.before ++ m.movie ∷ m.behind
+
+abbrev pub spell_movie : Movie → List ℕ
+spell_movie m = spell_all (all_atoms m) ++ m.left
+
+abbrev pub top_run : List ℕ → Run
+top_run b = chunks atom_front top b
+
+abbrev pub movie_of : List ℕ → Movie
+movie_of b = split (top_run b).chunks (top_run b).left
+
+-- ---- padding
+
+abbrev pub padding : List ℕ → ℕ → List Chunk
+padding slot s =
+    if nat_le (length slot) s then []
+    else atom (codes "free") (if nat_le 8 (length slot - s) && nat_lt (length slot - s) (2 ^ 32) then drop (s + 8) slot else []) ∷ []
+
+-- padding behind each unit, but for the last one where that is open
+abbrev pub fill : Bool → Fill
+fill opened last slot s = if opened && last then [] else padding slot s
+
+abbrev pub gaps_of : List Chunk → List Chunk
+gaps_of [] = []
+gaps_of (c ∷ cs) = if is_padding c.id then c ∷ gaps_of cs else []
+
+abbrev pub past_gaps : List Chunk → List Chunk
+past_gaps [] = []
+past_gaps (c ∷ cs) = if is_padding c.id then past_gaps cs else c ∷ cs
+
+-- a unit ends the list
+abbrev pub ends_open : List Piece → Bool
+ends_open [] = false
+ends_open (copied c ∷ ps) = ends_open ps
+ends_open (replaced lead slot now last ∷ ps) = last || ends_open ps
+
+-- the same pieces, with more bytes in the slot that ends the list
+abbrev pub grown : List ℕ → List Piece → List Piece
+grown more [] = []
+grown more (copied c ∷ ps) = copied c ∷ grown more ps
+grown more (replaced lead slot now true ∷ ps) = replaced lead (slot ++ more) now true ∷ ps
+grown more (replaced lead slot now false ∷ ps) = replaced lead slot now false ∷ grown more ps
+
+-- the padding of the unit that ends the list
+abbrev pub hanging : Fill → List Piece → List Chunk
+hanging f [] = []
+hanging f (copied c ∷ ps) = hanging f ps
+hanging f (replaced lead slot now true ∷ ps) = f true slot (length (unit_bytes lead now))
+hanging f (replaced lead slot now false ∷ ps) = hanging f ps
+
+-- ---- the new movie
+
+module _ (m : Movie) (e : List (Item Text)) where
+  abbrev pub pieces_of : List Piece
+  pieces_of = units shut (carried udta user_items e (map cell_of (atoms_in m.movie).chunks))
+
+  -- A slot that ends moov, where nothing is left in moov, goes on through the padding behind moov.
+  abbrev pub is_open : Bool
+  is_open = is_nil (atoms_in m.movie).left && ends_open pieces_of
+
+  abbrev pub slot_behind : List Chunk
+  slot_behind = if is_open then gaps_of m.behind else []
+
+  abbrev pub rest_behind : List Chunk
+  rest_behind = if is_open then past_gaps m.behind else m.behind
+
+  abbrev pub whole_pieces : List Piece
+  whole_pieces = if is_open then grown (spell_all (gaps_of m.behind)) pieces_of else pieces_of
+
+  -- it ends the file
+  abbrev pub ends_file : Bool
+  ends_file = is_open && (is_nil rest_behind && is_nil m.left)
+
+  abbrev pub kids_at : ℕ
+  kids_at = length (spell_all m.before) + length (header_bytes m.movie.form m.movie.id (length m.movie.body))
+
+  -- the slots, and what replaces them
+  abbrev pub edit_cuts : List Cut
+  edit_cuts = cuts (fill ends_file) kids_at whole_pieces
+
+  -- Its padding stands behind moov.
+  abbrev pub padding_behind : List Chunk
+  padding_behind = if is_open then hanging (fill ends_file) whole_pieces else []
+
+  abbrev pub laid_kids : List Chunk
+  laid_kids = lay (fill is_open) pieces_of
+
+  abbrev pub new_kids : List Chunk
+  new_kids = map (relocated (shift edit_cuts)) laid_kids
+
+  abbrev pub with_kids : List Chunk → Movie
+  with_kids ks = record {
+    before = m.before;
+    movie = record m.movie { body = spell_all ks ++ (atoms_in m.movie).left };
+    behind = padding_behind ++ rest_behind;
+    left = m.left;
+  }
+
+  -- the tables are as they were, or relocated
+  abbrev pub laid_movie : Movie
+  laid_movie = with_kids laid_kids
+
+  abbrev pub new_movie : Movie
+  new_movie = with_kids new_kids
+
+  -- the old movie with its tables relocated in their places
+  abbrev pub overlaid : Movie
+  overlaid = record m { movie = record m.movie { body = spell_all (map (relocated (shift edit_cuts)) (atoms_in m.movie).chunks) ++ (atoms_in m.movie).left } }
+
+unfoldable pub new : List ℕ → List (Item Text) → List ℕ
+new o e = spell_movie (new_movie (movie_of o) e)
+
+-- the bytes of a movie with another size in the header of moov
+abbrev pub with_size : Movie → ℕ → List ℕ → List ℕ
+with_size m n b =
+    take (length (spell_all m.before)) b ++ (header_bytes m.movie.form m.movie.id n ++ drop (length (spell_all m.before) + length (header_bytes m.movie.form m.movie.id (length m.movie.body))) b)

@@ -1,0 +1,162 @@
+-- The tables of a track: where its chunks stand, how many samples each has, and how long they are.
+use Rattle.std.specs.Prelude.{◌≡◌, ◌%◌, ◌≤◌, ◌<◌, ◌^◌, ◌+◌, ◌*◌, ℕ, zero, suc, nat_le, nat_lt, ◌==◌, List, [], ◌∷◌, ◌++◌, length, take, drop, replicate, Bool, true, false, ◌&&◌, codes, if◌then◌else◌}
+use Rattle.std.specs.List.{flat_map, AllByRecursion}
+use Rattle.std.specs.Int.{w32, w64, to_be_bytes, from_be_bytes}
+use Rattle.container_model.specs.Chunk.{Chunk}
+use Rattle.container_model.specs.Deep.{Leaf, leaves, mend}
+use Rattle.mov_model.specs.Atoms.{Place, moov, trak, mdia, minf, stbl, dinf, is, format}
+
+-- how the numbers of a table are spelled
+pub record Width : Type 0 where
+  pub bytes : ℕ
+  pub get : List ℕ → ℕ
+  pub put : ℕ → List ℕ
+
+abbrev pub four : Width
+four = record { bytes = 4; get = from_be_bytes w32; put = to_be_bytes w32 }
+
+abbrev pub eight : Width
+eight = record { bytes = 8; get = from_be_bytes w64; put = to_be_bytes w64 }
+
+-- the first numbers of the bytes, and the bytes with these changed
+abbrev pub numbers : Width → ℕ → List ℕ → List ℕ
+numbers w zero b = []
+numbers w (suc k) b = w.get (take w.bytes b) ∷ numbers w k (drop w.bytes b)
+
+abbrev pub changed_by : Width → (ℕ → ℕ) → List ℕ → List ℕ → Bool → List ℕ
+changed_by w f b more true = b
+changed_by w f b more false = w.put (f (w.get (take w.bytes b))) ++ more
+
+abbrev pub changed : Width → (ℕ → ℕ) → ℕ → List ℕ → List ℕ
+changed w f zero b = b
+changed w f (suc k) b = changed_by w f b (changed w f k (drop w.bytes b)) (nat_lt (length b) w.bytes)
+
+-- version and flags, the count of rows, and the rows
+abbrev pub count : Chunk → ℕ
+count c = from_be_bytes w32 (take 4 (drop 4 c.body))
+
+abbrev pub rows : Width → Chunk → List ℕ
+rows w c = numbers w (count c) (drop 8 c.body)
+
+abbrev pub with_rows : Width → (ℕ → ℕ) → Chunk → List ℕ
+with_rows w f c = take 8 c.body ++ changed w f (count c) (drop 8 c.body)
+
+-- the places in a table of chunks
+abbrev pub places_in : Chunk → List ℕ
+places_in c = if is c (codes "stco") then rows four c else (if is c (codes "co64") then rows eight c else [])
+
+-- a table that is as long as its rows
+abbrev pub LongRows : Chunk → Type 0
+LongRows c = (is c (codes "stco") ≡ true → 8 + 4 * count c ≤ length c.body) × (is c (codes "co64") ≡ true → 8 + 8 * count c ≤ length c.body)
+
+-- the other tables that are as long as their rows
+abbrev pub LongOther : Chunk → Type 0
+LongOther c =
+    (is c (codes "stsc") ≡ true → 8 + 12 * count c ≤ length c.body)
+    × (is c (codes "stsz") ≡ true → (12 ≤ length c.body) × (count c ≡ 0 → 12 + 4 * from_be_bytes w32 (take 4 (drop 8 c.body)) ≤ length c.body))
+
+-- the changed places pass no row's width
+abbrev pub FitsRows : (ℕ → ℕ) → Chunk → Type 0
+FitsRows f c = (is c (codes "stco") ≡ true → AllByRecursion (λ p. f p < 2 ^ 32) (rows four c)) × (is c (codes "co64") ≡ true → AllByRecursion (λ p. f p < 2 ^ 64) (rows eight c))
+
+-- a table with its places changed
+abbrev pub moved_body : (ℕ → ℕ) → Chunk → List ℕ
+moved_body f c = if is c (codes "stco") then with_rows four f c else (if is c (codes "co64") then with_rows eight f c else c.body)
+
+abbrev pub moved_leaf : (ℕ → ℕ) → Place → Chunk → List ℕ
+moved_leaf f moov c = c.body
+moved_leaf f trak c = c.body
+moved_leaf f mdia c = c.body
+moved_leaf f minf c = c.body
+moved_leaf f dinf c = c.body
+moved_leaf f stbl c = moved_body f c
+
+-- an atom of moov with all its chunk places changed
+abbrev pub relocated : (ℕ → ℕ) → Chunk → Chunk
+relocated f c = mend format (moved_leaf f) 5 moov c
+
+-- ---- what the tables say
+
+abbrev pub in_stbl : Place → Chunk → List Chunk
+in_stbl moov c = []
+in_stbl trak c = []
+in_stbl mdia c = []
+in_stbl minf c = []
+in_stbl dinf c = []
+in_stbl stbl c = c ∷ []
+
+-- the tables of a track
+abbrev pub tables : Chunk → List Chunk
+tables t = flat_map (λ (l : Leaf Place). in_stbl l.place l.chunk) (leaves format 5 moov t)
+
+abbrev pub in_dinf : Place → Chunk → List Chunk
+in_dinf moov c = []
+in_dinf trak c = []
+in_dinf mdia c = []
+in_dinf minf c = []
+in_dinf dinf c = c ∷ []
+in_dinf stbl c = []
+
+-- where its data is said to be
+abbrev pub references : Chunk → List Chunk
+references t = flat_map (λ (l : Leaf Place). in_dinf l.place l.chunk) (leaves format 5 moov t)
+
+-- each entry lies in the table and has flag 1: the data is in this file
+abbrev pub entries_local : ℕ → List ℕ → Bool
+entries_local zero b = true
+entries_local (suc k) b =
+    nat_le 12 (from_be_bytes w32 (take 4 b)) && (nat_le (from_be_bytes w32 (take 4 b)) (length b) && ((from_be_bytes w32 (take 4 (drop 8 b)) % 2 == 1) && entries_local k (drop (from_be_bytes w32 (take 4 b)) b)))
+
+abbrev pub IsLocal : Chunk → Type 0
+IsLocal c = is c (codes "dref") ≡ true → (8 ≤ length c.body) × (entries_local (count c) (drop 8 c.body) ≡ true)
+
+-- where the chunks of a track stand
+abbrev pub places : List Chunk → List ℕ
+places ts = flat_map places_in ts
+
+-- runs of chunks with as many samples each
+pub record Run : Type 0 where
+  pub first : ℕ
+  pub samples : ℕ
+
+abbrev pub runs_from : ℕ → List ℕ → List Run
+runs_from zero b = []
+runs_from (suc k) b = record { first = from_be_bytes w32 (take 4 b); samples = from_be_bytes w32 (take 4 (drop 4 b)) } ∷ runs_from k (drop 12 b)
+
+abbrev pub runs_in : Chunk → List Run
+runs_in c = if is c (codes "stsc") then runs_from (count c) (drop 8 c.body) else []
+
+abbrev pub sizes_by : ℕ → ℕ → List ℕ → List ℕ
+sizes_by zero n b = numbers four n b
+sizes_by (suc k) n b = replicate n (suc k)
+
+abbrev pub sizes_in : Chunk → List ℕ
+sizes_in c = if is c (codes "stsz") then sizes_by (count c) (from_be_bytes w32 (take 4 (drop 8 c.body))) (drop 12 c.body) else []
+
+-- first chunks begin at 1 and ascend; else no sample is named
+abbrev pub ascend : ℕ → List Run → Bool
+ascend low [] = true
+ascend low (r ∷ rs) = nat_lt low r.first && ascend r.first rs
+
+abbrev pub start_at_one : List Run → Bool
+start_at_one [] = false
+start_at_one (r ∷ rs) = (r.first == 1) && ascend 1 rs
+
+-- how many samples the chunk with a number has
+abbrev pub samples_of : ℕ → ℕ → List Run → ℕ
+samples_of now n [] = now
+samples_of now n (r ∷ rs) = if nat_le r.first n then samples_of r.samples n rs else now
+
+-- the samples of a chunk that lie in what follows its place
+abbrev pub samples_in : ℕ → List ℕ → List ℕ → List (List ℕ)
+samples_in zero sizes tail = []
+samples_in (suc n) [] tail = []
+samples_in (suc n) (s ∷ sizes) tail = if nat_le s (length tail) then take s tail ∷ samples_in n sizes (drop s tail) else []
+
+abbrev pub samples_from : List Run → ℕ → List ℕ → List (List ℕ) → List (List (List ℕ))
+samples_from rs n sizes [] = []
+samples_from rs n sizes (t ∷ tails) = samples_in (samples_of 0 n rs) sizes t ∷ samples_from rs (suc n) (drop (samples_of 0 n rs) sizes) tails
+
+-- the samples of each chunk of a track, by what follows each chunk's place
+abbrev pub samples : List Chunk → List (List ℕ) → List (List (List ℕ))
+samples ts tails = if start_at_one (flat_map runs_in ts) then samples_from (flat_map runs_in ts) 1 (flat_map sizes_in ts) tails else []
