@@ -16,3 +16,5 @@ pub mod Stay
 pub mod Copied
 pub mod Stood
 pub mod Avoids
+pub mod Steps
+pub mod Windows

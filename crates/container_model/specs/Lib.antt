@@ -6,3 +6,4 @@ pub mod Deep
 pub mod Items
 pub mod Written
 pub mod Stood
+pub mod Windows
