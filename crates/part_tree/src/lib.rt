@@ -1,12 +1,18 @@
-//! The words that all layers share: identifiers, ranges, bytes, and plans to change a file.
+//! The words that all layers share: identifiers, ranges, bytes, fields, refusals, and plans to change a file.
 //! It knows no format and no device.
 #![tactic(auto)]
 
 mod bytes;
+mod field;
 mod names;
+mod part;
 mod plan;
+mod why;
 
 pub use bytes::Bytes;
+pub use field::{BextField, Broken, Change, EditItem, FieldName, Form, RuleSet, Value};
 pub use me_bytes::NoMemory;
 pub use names::{FourCc, Kind, Span};
+pub use part::{Part, Role};
 pub use plan::{Patch, Patches, Plan, Segment, Segments};
+pub use why::{ReadFault, Why};
