@@ -18,3 +18,4 @@ pub mod Stood
 pub mod Avoids
 pub mod Steps
 pub mod Windows
+pub mod Rows

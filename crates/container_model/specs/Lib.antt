@@ -7,3 +7,4 @@ pub mod Items
 pub mod Written
 pub mod Stood
 pub mod Windows
+pub mod Rows

@@ -10,7 +10,8 @@ use Rattle.container_model.proofs.Codec.{IsBytes}
 use Rattle.container_model.proofs.Items.{same_true}
 use Rattle.mov_model.specs.Atoms.{is}
 use Rattle.mov_model.specs.User.{Text, user_items, udta}
-use Rattle.mov_model.specs.Tables.{four, eight, rows, tables, FitsRows}
+use Rattle.container_model.specs.Rows.{be32, be64}
+use Rattle.mov_model.specs.Tables.{rows, tables, FitsRows}
 use Rattle.mov_model.specs.Movie.{Movie, movie_of, has_carrier, fresh, edit_cuts, new}
 use Rattle.mov_model.specs.Edited.{Node, nodes, kept, parts, first_user, tracks, Fits, Supported, UserItems, Edited}
 use Rattle.mov_model.specs.Large.{Size, sized, passes, first_passing, user_sizes, row_sizes, table_sizes, all_sizes, too_large}
@@ -47,16 +48,16 @@ below f limit bound w (p ∷ ps) h = (w (f p) h.0, below f limit bound w ps h.1)
 row_fits : (f : ℕ → ℕ) (c : Chunk) → Within (row_sizes f c) → FitsRows f c
 row_fits f c h = (four_fits, eight_fits)
   where
-    four_fits : is c (codes "stco") ≡ true → AllByRecursion (λ p. f p < 2 ^ 32) (rows four c)
+    four_fits : is c (codes "stco") ≡ true → AllByRecursion (λ p. f p < 2 ^ 32) (rows be32 c)
     four_fits e =
-        let one : row_sizes f c ≡ map (λ p. sized (f p) 4294967295) (rows four c) = rw e refl in
-        below f 4294967295 (2 ^ 32) (λ n le. omega arith) (rows four c) (within_map (λ p. sized (f p) 4294967295) (rows four c) (rw one at h))
+        let one : row_sizes f c ≡ map (λ p. sized (f p) 4294967295) (rows be32 c) = rw e refl in
+        below f 4294967295 (2 ^ 32) (λ n le. omega arith) (rows be32 c) (within_map (λ p. sized (f p) 4294967295) (rows be32 c) (rw one at h))
 
-    eight_fits : is c (codes "co64") ≡ true → AllByRecursion (λ p. f p < 2 ^ 64) (rows eight c)
+    eight_fits : is c (codes "co64") ≡ true → AllByRecursion (λ p. f p < 2 ^ 64) (rows be64 c)
     eight_fits e =
         let no : is c (codes "stco") ≡ false = rw (same_true c.id (codes "co64") e) refl in
-        let one : row_sizes f c ≡ map (λ p. sized (f p) 18446744073709551615) (rows eight c) = rw (no, e) refl in
-        below f 18446744073709551615 (2 ^ 64) (λ n le. omega arith) (rows eight c) (within_map (λ p. sized (f p) 18446744073709551615) (rows eight c) (rw one at h))
+        let one : row_sizes f c ≡ map (λ p. sized (f p) 18446744073709551615) (rows be64 c) = rw (no, e) refl in
+        below f 18446744073709551615 (2 ^ 64) (λ n le. omega arith) (rows be64 c) (within_map (λ p. sized (f p) 18446744073709551615) (rows be64 c) (rw one at h))
 
 rows_fit : (f : ℕ → ℕ) (cs : List Chunk) → AllByRecursion (λ c. Within (row_sizes f c)) cs → AllByRecursion (FitsRows f) cs
 rows_fit f [] h = tt

@@ -3,80 +3,26 @@ use Rattle.std.proofs.Common.{◌≡◌, ℕ, zero, suc, ◌+◌, ◌*◌, ◌^�
 use Rattle.std.specs.Prelude.{codes}
 use Rattle.std.specs.List.{flat_map, AllByRecursion}
 use Rattle.std.specs.Int.{w32, from_be_bytes}
-use Rattle.std.proofs.lemmas.Bool.{ltb-false, ltb-true, le-ltb}
-use Rattle.std.proofs.lemmas.Nat.{be_bytes_4, be_bytes_8, from_be_bytes-to_be_bytes_4, from_be_bytes-to_be_bytes_8}
+use Rattle.std.proofs.lemmas.Bool.{ltb-false, ltb-true}
 use Rattle.std.proofs.lemmas.List.{length-append, length-take, length-drop, take_at, drop_at, take_all, drop_all, take-append-drop, drop-drop, append-nil}
 use Rattle.container_model.specs.Chunk.{Chunk}
 use Rattle.container_model.specs.Deep.{mend_at, mend, Whole, Leaf, stands, leaves, tokens}
+use Rattle.container_model.proofs.Rows.{Spells, be32_spells, be64_spells, changed_len, changed_behind, changed_numbers, changed_none}
 use Rattle.container_model.proofs.Codec.{IsBytes, IsBytes-drop}
-use Rattle.container_model.proofs.Fronts.{IsBytes-take}
 use Rattle.container_model.proofs.Atoms.{atoms_give_back}
 use Rattle.container_model.proofs.Moved.{atom_moves}
 use Rattle.container_model.proofs.Deep.{Alike, mend_alike, mend_leaves, mend_tokens, mend_whole, mend_same}
 use Rattle.container_model.proofs.Items.{same_true}
 use Rattle.mov_model.specs.Atoms.{Place, moov, trak, mdia, minf, stbl, dinf, is, opens, format}
-use Rattle.mov_model.specs.Tables.{LongOther, in_dinf, references, Width, four, eight, numbers, changed_by, changed, count, rows, with_rows, places_in, LongRows, FitsRows, moved_body, moved_leaf, relocated, in_stbl, tables, places, runs_in, sizes_in, samples}
+use Rattle.container_model.specs.Rows.{Width, be32, be64, changed}
+use Rattle.mov_model.specs.Tables.{LongOther, in_dinf, references, count, rows, with_rows, places_in, LongRows, FitsRows, moved_body, moved_leaf, relocated, in_stbl, tables, places, runs_in, sizes_in, samples}
 use Rattle.mov_model.specs.Edited.{blank_rows, look_table, look}
 
--- a width whose numbers are spelled in so many bytes, below a bound read as they were
-pub record Spells (w : Width) (bound : ℕ) : Type 0 where
-  pub put_len : (n : ℕ) → length (w.put n) ≡ w.bytes
-  pub get_put : (n : ℕ) → n < bound → w.get (w.put n) ≡ n
-  pub put_get : (b : List ℕ) → length b ≡ w.bytes → IsBytes b → w.put (w.get b) ≡ b
-
-pub four_spells : Spells four (2 ^ 32)
-four_spells = record { put_len = λ n. refl; get_put = λ n lt. from_be_bytes-to_be_bytes_4 n lt; put_get = λ b l h. be_bytes_4 b _ l h refl }
-
-pub eight_spells : Spells eight (2 ^ 64)
-eight_spells = record { put_len = λ n. refl; get_put = λ n lt. from_be_bytes-to_be_bytes_8 n lt; put_get = λ b l h. be_bytes_8 b _ l h refl }
-
 module _ (w : Width) (bound : ℕ) (sp : Spells w bound) (f : ℕ → ℕ) where
-  changed_len : (k : ℕ) (b : List ℕ) → length (changed w f k b) ≡ length b
-  changed_len zero b = refl
-  changed_len (suc k) b = go (ltb (length b) w.bytes) refl (changed_len k (drop w.bytes b))
-    where
-      go : (t : Bool) → ltb (length b) w.bytes ≡ t → length (changed w f k (drop w.bytes b)) ≡ length (drop w.bytes b) → length (changed_by w f b (changed w f k (drop w.bytes b)) t) ≡ length b
-      go true e again = refl
-      go false e again = omega (arith, ltb-false _ _ e, again, length-drop w.bytes b, length-append (w.put (f (w.get (take w.bytes b)))) (changed w f k (drop w.bytes b)), sp.put_len (f (w.get (take w.bytes b))))
-
-  short_drop : (k : ℕ) (b : List ℕ) → length b < w.bytes → drop (w.bytes * suc k) b ≡ []
-  short_drop k b lt = drop_all (w.bytes * suc k) b (omega (arith, more k))
-    where
-      more : (k : ℕ) → w.bytes ≤ w.bytes * suc k
-      more k = omega arith
-
-  changed_behind : (k : ℕ) (b : List ℕ) → drop (w.bytes * k) (changed w f k b) ≡ drop (w.bytes * k) b
-  changed_behind zero b = refl
-  changed_behind (suc k) b = go (ltb (length b) w.bytes) refl (changed_behind k (drop w.bytes b))
-    where
-      step : w.bytes * suc k ≡ w.bytes + w.bytes * k
-      step = omega arith
-
-      go : (t : Bool) → ltb (length b) w.bytes ≡ t → drop (w.bytes * k) (changed w f k (drop w.bytes b)) ≡ drop (w.bytes * k) (drop w.bytes b)
-          → drop (w.bytes * suc k) (changed_by w f b (changed w f k (drop w.bytes b)) t) ≡ drop (w.bytes * suc k) b
-      go true e again = refl
-      go false e again =
-          let n = w.put (f (w.get (take w.bytes b))) in
-          let x = changed w f k (drop w.bytes b) in
-          ap (λ (j : ℕ). drop j (n ++ x)) step ∙ sym (drop-drop (w.bytes * k) w.bytes (n ++ x)) ∙ ap (drop (w.bytes * k)) (drop_at n x w.bytes (sp.put_len (f (w.get (take w.bytes b)))))
-          ∙ again ∙ drop-drop (w.bytes * k) w.bytes b ∙ ap (λ (j : ℕ). drop j b) (sym step)
-
-  -- the changed rows
-  changed_numbers : (k : ℕ) (b : List ℕ) → w.bytes * k ≤ length b → AllByRecursion (λ p. f p < bound) (numbers w k b) → numbers w k (changed w f k b) ≡ map f (numbers w k b)
-  changed_numbers zero b le h = refl
-  changed_numbers (suc k) b le h =
-      let n = f (w.get (take w.bytes b)) in
-      let x = changed w f k (drop w.bytes b) in
-      let step : w.bytes * suc k ≡ w.bytes + w.bytes * k = omega arith in
-      let long : ltb (length b) w.bytes ≡ false = le-ltb _ _ (omega (arith, step)) in
-      let again = changed_numbers k (drop w.bytes b) (omega (arith, step, length-drop w.bytes b)) h.1 in
-      let one : numbers w (suc k) (w.put n ++ x) ≡ n ∷ map f (numbers w k (drop w.bytes b)) = rw (take_at (w.put n) x w.bytes (sp.put_len n), drop_at (w.put n) x w.bytes (sp.put_len n), sp.get_put n h.0, again) refl in
-      ap (λ (t : Bool). numbers w (suc k) (changed_by w f b x t)) long ∙ one
-
   -- ---- a table
 
   rows_len : (c : Chunk) → length (with_rows w f c) ≡ length c.body
-  rows_len c = omega (arith, length-append (take 8 c.body) (changed w f (count c) (drop 8 c.body)), changed_len (count c) (drop 8 c.body), length-take 8 c.body, length-drop 8 c.body)
+  rows_len c = omega (arith, length-append (take 8 c.body) (changed w f (count c) (drop 8 c.body)), changed_len w bound sp f (count c) (drop 8 c.body), length-take 8 c.body, length-drop 8 c.body)
 
   front_same : (c : Chunk) → take 8 (with_rows w f c) ≡ take 8 c.body
   front_same c = go (ltb (length c.body) 8) refl
@@ -84,7 +30,7 @@ module _ (w : Width) (bound : ℕ) (sp : Spells w bound) (f : ℕ → ℕ) where
       go : (t : Bool) → ltb (length c.body) 8 ≡ t → take 8 (with_rows w f c) ≡ take 8 c.body
       go true e =
           let lt = ltb-true _ _ e in
-          let nil : length (changed w f (count c) (drop 8 c.body)) ≡ 0 = omega (arith, changed_len (count c) (drop 8 c.body), length-drop 8 c.body) in
+          let nil : length (changed w f (count c) (drop 8 c.body)) ≡ 0 = omega (arith, changed_len w bound sp f (count c) (drop 8 c.body), length-drop 8 c.body) in
           let none : changed w f (count c) (drop 8 c.body) ≡ [] = Rattle.std.proofs.lemmas.List.nil_from_length _ nil in
           rw (none, append-nil (take 8 c.body), take_all 8 c.body (omega arith)) (take_all 8 c.body (omega arith))
       go false e = take_at (take 8 c.body) (changed w f (count c) (drop 8 c.body)) 8 (omega (arith, ltb-false _ _ e, length-take 8 c.body))
@@ -95,7 +41,7 @@ module _ (w : Width) (bound : ℕ) (sp : Spells w bound) (f : ℕ → ℕ) where
       go : (t : Bool) → ltb (length c.body) 8 ≡ t → drop 8 (with_rows w f c) ≡ changed w f (count c) (drop 8 c.body)
       go true e =
           let lt = ltb-true _ _ e in
-          let nil : length (changed w f (count c) (drop 8 c.body)) ≡ 0 = omega (arith, changed_len (count c) (drop 8 c.body), length-drop 8 c.body) in
+          let nil : length (changed w f (count c) (drop 8 c.body)) ≡ 0 = omega (arith, changed_len w bound sp f (count c) (drop 8 c.body), length-drop 8 c.body) in
           let none : changed w f (count c) (drop 8 c.body) ≡ [] = Rattle.std.proofs.lemmas.List.nil_from_length _ nil in
           drop_all 8 (with_rows w f c) (omega (arith, rows_len c)) ∙ sym none
       go false e = drop_at (take 8 c.body) (changed w f (count c) (drop 8 c.body)) 8 (omega (arith, ltb-false _ _ e, length-take 8 c.body))
@@ -119,30 +65,18 @@ module _ (w : Width) (bound : ℕ) (sp : Spells w bound) (f : ℕ → ℕ) where
 
   rows_changed : (c : Chunk) → 8 + w.bytes * count c ≤ length c.body → AllByRecursion (λ p. f p < bound) (rows w c) → rows w (record c { body = with_rows w f c }) ≡ map f (rows w c)
   rows_changed c long h =
-      rw (count_same c, behind_same c) (changed_numbers (count c) (drop 8 c.body) (omega (arith, length-drop 8 c.body)) h)
+      rw (count_same c, behind_same c) (changed_numbers w bound sp f (count c) (drop 8 c.body) (omega (arith, length-drop 8 c.body)) h)
 
   -- the rows are not looked at
   blank_same : (c : Chunk) → blank_rows w (record c { body = with_rows w f c }) ≡ blank_rows w c
   blank_same c =
       let n = w.bytes * count c in
-      let tail : drop (8 + n) (with_rows w f c) ≡ drop (8 + n) c.body = sym (drop-drop n 8 (with_rows w f c)) ∙ ap (drop n) (behind_same c) ∙ changed_behind (count c) (drop 8 c.body) ∙ drop-drop n 8 c.body in
+      let tail : drop (8 + n) (with_rows w f c) ≡ drop (8 + n) c.body = sym (drop-drop n 8 (with_rows w f c)) ∙ ap (drop n) (behind_same c) ∙ changed_behind w bound sp f (count c) (drop 8 c.body) ∙ drop-drop n 8 c.body in
       rw (count_same c, front_same c, tail) refl
 
 module _ (w : Width) (bound : ℕ) (sp : Spells w bound) (f : ℕ → ℕ) (copied : (p : ℕ) → f p ≡ p) where
-  changed_none : (k : ℕ) (b : List ℕ) → IsBytes b → changed w f k b ≡ b
-  changed_none zero b bytes = refl
-  changed_none (suc k) b bytes = go (ltb (length b) w.bytes) refl (changed_none k (drop w.bytes b) (IsBytes-drop w.bytes b bytes))
-    where
-      go : (t : Bool) → ltb (length b) w.bytes ≡ t → changed w f k (drop w.bytes b) ≡ drop w.bytes b → changed_by w f b (changed w f k (drop w.bytes b)) t ≡ b
-      go true e again = refl
-      go false e again =
-          let len : length (take w.bytes b) ≡ w.bytes = omega (arith, ltb-false _ _ e, length-take w.bytes b) in
-          ap (λ (x : List ℕ). w.put (f (w.get (take w.bytes b))) ++ x) again
-          ∙ ap (λ (n : ℕ). w.put n ++ drop w.bytes b) (copied (w.get (take w.bytes b)))
-          ∙ ap (λ (x : List ℕ). x ++ drop w.bytes b) (sp.put_get (take w.bytes b) len (IsBytes-take w.bytes b bytes)) ∙ take-append-drop w.bytes b
-
   rows_none : (c : Chunk) → IsBytes c.body → with_rows w f c ≡ c.body
-  rows_none c bytes = ap (λ (x : List ℕ). take 8 c.body ++ x) (changed_none (count c) (drop 8 c.body) (IsBytes-drop 8 c.body bytes)) ∙ take-append-drop 8 c.body
+  rows_none c bytes = ap (λ (x : List ℕ). take 8 c.body ++ x) (changed_none w bound sp f copied (count c) (drop 8 c.body) (IsBytes-drop 8 c.body bytes)) ∙ take-append-drop 8 c.body
 
 -- ---- tables, by their identifiers
 
@@ -164,10 +98,10 @@ module _ (f : ℕ → ℕ) where
   abbrev pub moved_table : Chunk → Chunk
   moved_table c = record c { body = moved_body f c }
 
-  body_four : (c : Chunk) → c.id ≡ codes "stco" → moved_body f c ≡ with_rows four f c
+  body_four : (c : Chunk) → c.id ≡ codes "stco" → moved_body f c ≡ with_rows be32 f c
   body_four c e = rw e refl
 
-  body_eight : (c : Chunk) → c.id ≡ codes "co64" → moved_body f c ≡ with_rows eight f c
+  body_eight : (c : Chunk) → c.id ≡ codes "co64" → moved_body f c ≡ with_rows be64 f c
   body_eight c e = rw e refl
 
   body_other : (c : Chunk) → is c (codes "stco") ≡ false → is c (codes "co64") ≡ false → moved_body f c ≡ c.body
@@ -177,16 +111,16 @@ module _ (f : ℕ → ℕ) where
   body_len c = go (kind c)
     where
       go : Kind c → length (moved_body f c) ≡ length c.body
-      go (is_stco e) = rw (body_four c e) (rows_len four (2 ^ 32) four_spells f c)
-      go (is_co64 e) = rw (body_eight c e) (rows_len eight (2 ^ 64) eight_spells f c)
+      go (is_stco e) = rw (body_four c e) (rows_len be32 (2 ^ 32) be32_spells f c)
+      go (is_co64 e) = rw (body_eight c e) (rows_len be64 (2 ^ 64) be64_spells f c)
       go (is_other e i) = rw (body_other c e i) refl
 
   look_same : (c : Chunk) → look_table (moved_table c) ≡ look_table c
   look_same c = go (kind c)
     where
       go : Kind c → look_table (moved_table c) ≡ look_table c
-      go (is_stco e) = rw (body_four c e, e) (blank_same four (2 ^ 32) four_spells f c)
-      go (is_co64 e) = rw (body_eight c e, e) (blank_same eight (2 ^ 64) eight_spells f c)
+      go (is_stco e) = rw (body_four c e, e) (blank_same be32 (2 ^ 32) be32_spells f c)
+      go (is_co64 e) = rw (body_eight c e, e) (blank_same be64 (2 ^ 64) be64_spells f c)
       go (is_other e i) = rw (body_other c e i) refl
 
   keeps : (p : Place) (c : Chunk) → length (moved_leaf f p c) ≡ length c.body
@@ -285,8 +219,8 @@ module _ (f : ℕ → ℕ) where
   moved_places c long fits = go (kind c)
     where
       go : Kind c → places_in (moved_table c) ≡ map f (places_in c)
-      go (is_stco e) = let yes : is c (codes "stco") ≡ true = rw e refl in rw (body_four c e, e) (rows_changed four (2 ^ 32) four_spells f c (long.0 yes) (fits.0 yes))
-      go (is_co64 e) = let yes : is c (codes "co64") ≡ true = rw e refl in rw (body_eight c e, e) (rows_changed eight (2 ^ 64) eight_spells f c (long.1 yes) (fits.1 yes))
+      go (is_stco e) = let yes : is c (codes "stco") ≡ true = rw e refl in rw (body_four c e, e) (rows_changed be32 (2 ^ 32) be32_spells f c (long.0 yes) (fits.0 yes))
+      go (is_co64 e) = let yes : is c (codes "co64") ≡ true = rw e refl in rw (body_eight c e, e) (rows_changed be64 (2 ^ 64) be64_spells f c (long.1 yes) (fits.1 yes))
       go (is_other e i) = rw (e, i) refl
 
   map-numbers : (a b : List ℕ) → map f (a ++ b) ≡ map f a ++ map f b
@@ -352,8 +286,8 @@ module _ (f : ℕ → ℕ) where
   moved_count c = go (kind c)
     where
       go : Kind c → count (moved_table c) ≡ count c
-      go (is_stco e) = ap (λ (b : List ℕ). count (record c { body = b })) (body_four c e) ∙ count_same four (2 ^ 32) four_spells f c
-      go (is_co64 e) = ap (λ (b : List ℕ). count (record c { body = b })) (body_eight c e) ∙ count_same eight (2 ^ 64) eight_spells f c
+      go (is_stco e) = ap (λ (b : List ℕ). count (record c { body = b })) (body_four c e) ∙ count_same be32 (2 ^ 32) be32_spells f c
+      go (is_co64 e) = ap (λ (b : List ℕ). count (record c { body = b })) (body_eight c e) ∙ count_same be64 (2 ^ 64) be64_spells f c
       go (is_other e i) = ap (λ (b : List ℕ). count (record c { body = b })) (body_other c e i)
 
   pub long_moved : (c : Chunk) → LongRows c → LongRows (moved_table c)
@@ -389,8 +323,8 @@ module _ (f : ℕ → ℕ) where
     body_none c bytes = go (kind c)
       where
         go : Kind c → moved_body f c ≡ c.body
-        go (is_stco e) = body_four c e ∙ rows_none four (2 ^ 32) four_spells f copied c bytes
-        go (is_co64 e) = body_eight c e ∙ rows_none eight (2 ^ 64) eight_spells f copied c bytes
+        go (is_stco e) = body_four c e ∙ rows_none be32 (2 ^ 32) be32_spells f copied c bytes
+        go (is_co64 e) = body_eight c e ∙ rows_none be64 (2 ^ 64) be64_spells f copied c bytes
         go (is_other e i) = body_other c e i
 
     leaf_none : (p : Place) (c : Chunk) → IsBytes c.body → moved_leaf f p c ≡ c.body

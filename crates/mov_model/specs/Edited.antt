@@ -9,7 +9,8 @@ use Rattle.container_model.specs.Deep.{Whole, opened, closed, mark, Token, leaf,
 use Rattle.container_model.specs.Items.{edit_carrier, put_all, updated, Item, values, item_token, put_marks}
 use Rattle.mov_model.specs.Atoms.{Place, moov, trak, mdia, minf, stbl, dinf, is, format, is_padding, atoms_in}
 use Rattle.mov_model.specs.User.{IsUserValue, Text, user_items, udta}
-use Rattle.mov_model.specs.Tables.{LongOther, references, IsLocal, LongRows, FitsRows, Width, four, eight, count, tables, places, samples}
+use Rattle.container_model.specs.Rows.{Width, be32, be64}
+use Rattle.mov_model.specs.Tables.{LongOther, references, IsLocal, LongRows, FitsRows, count, tables, places, samples}
 use Rattle.mov_model.specs.Movie.{top_run, edit_cuts, new_movie, has_carrier, fresh, Movie, all_atoms, movie_of}
 
 -- the atoms of moov that are no padding
@@ -38,7 +39,7 @@ abbrev pub blank_rows : Width → Chunk → List ℕ
 blank_rows w c = take 8 c.body ++ (replicate (w.bytes * count c) 0 ++ drop (8 + w.bytes * count c) c.body)
 
 abbrev pub look_table : Chunk → List ℕ
-look_table c = if is c (codes "stco") then blank_rows four c else (if is c (codes "co64") then blank_rows eight c else c.body)
+look_table c = if is c (codes "stco") then blank_rows be32 c else (if is c (codes "co64") then blank_rows be64 c else c.body)
 
 abbrev pub look : Place → Chunk → List ℕ
 look moov c = c.body

@@ -6,7 +6,8 @@ use Rattle.container_model.specs.Splice.{shift}
 use Rattle.container_model.specs.Items.{Item, put_all, edit_carrier}
 use Rattle.mov_model.specs.Atoms.{is}
 use Rattle.mov_model.specs.User.{Text, user_items, udta}
-use Rattle.mov_model.specs.Tables.{four, eight, rows, tables}
+use Rattle.container_model.specs.Rows.{be32, be64}
+use Rattle.mov_model.specs.Tables.{rows, tables}
 use Rattle.mov_model.specs.Movie.{Movie, has_carrier, fresh, edit_cuts, new_movie, spell_movie}
 use Rattle.mov_model.specs.Edited.{parts, first_user, tracks, count_parts}
 
@@ -33,8 +34,8 @@ user_sizes m e =
 -- the new places in a table
 abbrev pub row_sizes : (ℕ → ℕ) → Chunk → List Size
 row_sizes f c =
-    if is c (codes "stco") then map (λ p. sized (f p) 4294967295) (rows four c)
-    else (if is c (codes "co64") then map (λ p. sized (f p) 18446744073709551615) (rows eight c) else [])
+    if is c (codes "stco") then map (λ p. sized (f p) 4294967295) (rows be32 c)
+    else (if is c (codes "co64") then map (λ p. sized (f p) 18446744073709551615) (rows be64 c) else [])
 
 abbrev pub table_sizes : Movie → List (Item Text) → List Size
 table_sizes m e = flat_map (λ (t : Chunk). flat_map (row_sizes (shift (edit_cuts m e))) (tables t)) (tracks m)

@@ -1,35 +1,11 @@
 -- The tables of a track: where its chunks stand, how many samples each has, and how long they are.
 use Rattle.std.specs.Prelude.{◌≡◌, ◌%◌, ◌≤◌, ◌<◌, ◌^◌, ◌+◌, ◌*◌, ℕ, zero, suc, nat_le, nat_lt, ◌==◌, List, [], ◌∷◌, ◌++◌, length, take, drop, replicate, Bool, true, false, ◌&&◌, codes, if◌then◌else◌}
 use Rattle.std.specs.List.{flat_map, AllByRecursion}
-use Rattle.std.specs.Int.{w32, w64, to_be_bytes, from_be_bytes}
+use Rattle.std.specs.Int.{w32, from_be_bytes}
 use Rattle.container_model.specs.Chunk.{Chunk}
 use Rattle.container_model.specs.Deep.{Leaf, leaves, mend}
+use Rattle.container_model.specs.Rows.{Width, be32, be64, numbers, changed}
 use Rattle.mov_model.specs.Atoms.{Place, moov, trak, mdia, minf, stbl, dinf, is, format}
-
--- how the numbers of a table are spelled
-pub record Width : Type 0 where
-  pub bytes : ℕ
-  pub get : List ℕ → ℕ
-  pub put : ℕ → List ℕ
-
-abbrev pub four : Width
-four = record { bytes = 4; get = from_be_bytes w32; put = to_be_bytes w32 }
-
-abbrev pub eight : Width
-eight = record { bytes = 8; get = from_be_bytes w64; put = to_be_bytes w64 }
-
--- the first numbers of the bytes, and the bytes with these changed
-abbrev pub numbers : Width → ℕ → List ℕ → List ℕ
-numbers w zero b = []
-numbers w (suc k) b = w.get (take w.bytes b) ∷ numbers w k (drop w.bytes b)
-
-abbrev pub changed_by : Width → (ℕ → ℕ) → List ℕ → List ℕ → Bool → List ℕ
-changed_by w f b more true = b
-changed_by w f b more false = w.put (f (w.get (take w.bytes b))) ++ more
-
-abbrev pub changed : Width → (ℕ → ℕ) → ℕ → List ℕ → List ℕ
-changed w f zero b = b
-changed w f (suc k) b = changed_by w f b (changed w f k (drop w.bytes b)) (nat_lt (length b) w.bytes)
 
 -- version and flags, the count of rows, and the rows
 abbrev pub count : Chunk → ℕ
@@ -43,7 +19,7 @@ with_rows w f c = take 8 c.body ++ changed w f (count c) (drop 8 c.body)
 
 -- the places in a table of chunks
 abbrev pub places_in : Chunk → List ℕ
-places_in c = if is c (codes "stco") then rows four c else (if is c (codes "co64") then rows eight c else [])
+places_in c = if is c (codes "stco") then rows be32 c else (if is c (codes "co64") then rows be64 c else [])
 
 -- a table that is as long as its rows
 abbrev pub LongRows : Chunk → Type 0
@@ -57,11 +33,11 @@ LongOther c =
 
 -- the changed places pass no row's width
 abbrev pub FitsRows : (ℕ → ℕ) → Chunk → Type 0
-FitsRows f c = (is c (codes "stco") ≡ true → AllByRecursion (λ p. f p < 2 ^ 32) (rows four c)) × (is c (codes "co64") ≡ true → AllByRecursion (λ p. f p < 2 ^ 64) (rows eight c))
+FitsRows f c = (is c (codes "stco") ≡ true → AllByRecursion (λ p. f p < 2 ^ 32) (rows be32 c)) × (is c (codes "co64") ≡ true → AllByRecursion (λ p. f p < 2 ^ 64) (rows be64 c))
 
 -- a table with its places changed
 abbrev pub moved_body : (ℕ → ℕ) → Chunk → List ℕ
-moved_body f c = if is c (codes "stco") then with_rows four f c else (if is c (codes "co64") then with_rows eight f c else c.body)
+moved_body f c = if is c (codes "stco") then with_rows be32 f c else (if is c (codes "co64") then with_rows be64 f c else c.body)
 
 abbrev pub moved_leaf : (ℕ → ℕ) → Place → Chunk → List ℕ
 moved_leaf f moov c = c.body
@@ -127,7 +103,7 @@ abbrev pub runs_in : Chunk → List Run
 runs_in c = if is c (codes "stsc") then runs_from (count c) (drop 8 c.body) else []
 
 abbrev pub sizes_by : ℕ → ℕ → List ℕ → List ℕ
-sizes_by zero n b = numbers four n b
+sizes_by zero n b = numbers be32 n b
 sizes_by (suc k) n b = replicate n (suc k)
 
 abbrev pub sizes_in : Chunk → List ℕ
