@@ -1,5 +1,5 @@
 -- What a depot holds after calls that only read.
-use Rattle.std.proofs.Common.{◌≡◌, ◌∙◌, ℕ, List, sym, ap, subst}
+use Rattle.std.proofs.Common.{◌∙◌, ℕ, List, sym, ap, subst}
 use Rattle.std.specs.Prelude.{IsTrue}
 use Rattle.me_disk.specs.Disk.{Disk, bytes_of}
 use Rattle.me_disk.specs.Holds.{Holds}

@@ -3,3 +3,4 @@ pub mod Log
 pub mod Runs
 pub mod Sound
 pub mod Holds
+mod Fronts

@@ -6,3 +6,4 @@ pub mod Memory
 pub mod Store
 pub mod Silent
 pub mod Holds
+pub mod Streams

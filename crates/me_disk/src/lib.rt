@@ -1,12 +1,17 @@
-//! A file with its two companions, as a disk that may fail and crash.
+//! A file with its two companions, as a disk that may fail and crash; a source of bytes and a sink.
 #![tactic(auto)]
 
+mod counts;
 mod depot;
 mod memory;
-mod silent;
+mod path;
 mod store;
+mod stream;
 
 pub use depot::{Depot, DepotFault, Slot, WorkState};
 pub use memory::MemoryDepot;
-pub use silent::SilentDepot;
+pub use path::PathDepot;
 pub use store::{FailAt, Fate, Held, Logged, Odds, Store};
+pub use stream::{
+    MemorySink, MemorySource, Sink, SinkFault, Source, SourceFault, StdSink, StdSource,
+};
