@@ -1,0 +1,11 @@
+pub mod Bext
+pub mod Broken
+pub mod Dates
+pub mod Fields
+pub mod History
+pub mod Numbers
+pub mod Raw
+pub mod Rules
+pub mod Shown
+pub mod Texts
+pub mod Update
