@@ -81,10 +81,10 @@ module _ {P S : Type 0} (f : Format P S) (good : GivesBack f.front) (moves : Mov
   kids_joined : (q : P) (c : Chunk) → IsBytes c.body → spell_all (kids f q c).chunks ++ (kids f q c).left ≡ drop (f.prefix q) c.body
   kids_joined q c bytes = chunks_joined f.front good (f.start q) (drop (f.prefix q) c.body) (IsBytes-drop (f.prefix q) c.body bytes)
 
-  kids_bytes : (q : P) (c : Chunk) → IsBytes c.body → IsBytes (spell_all (kids f q c).chunks ++ (kids f q c).left)
+  pub kids_bytes : (q : P) (c : Chunk) → IsBytes c.body → IsBytes (spell_all (kids f q c).chunks ++ (kids f q c).left)
   kids_bytes q c bytes = rw (kids_joined q c bytes) (IsBytes-drop (f.prefix q) c.body bytes)
 
-  each_alike : (g : Chunk → Chunk) (W : Chunk → Type 0) → ((k : Chunk) → W k → IsBytes k.body → Alike k (g k)) → (cs : List Chunk) → AllByRecursion W cs → AllByRecursion (λ c. IsBytes c.body) cs → AllAlike g cs
+  pub each_alike : (g : Chunk → Chunk) (W : Chunk → Type 0) → ((k : Chunk) → W k → IsBytes k.body → Alike k (g k)) → (cs : List Chunk) → AllByRecursion W cs → AllByRecursion (λ c. IsBytes c.body) cs → AllAlike g cs
   each_alike g W h [] w b = tt
   each_alike g W h (c ∷ cs) w b = (h c w.0 b.0, each_alike g W h cs w.1 b.1)
 
@@ -95,7 +95,7 @@ module _ {P S : Type 0} (f : Format P S) (good : GivesBack f.front) (moves : Mov
       omega (arith, length-append (take (f.prefix q) c.body) (spell_all cs ++ k.left), length-append (spell_all cs) k.left, length-append (spell_all k.chunks) k.left, all_len g k.chunks h, ap length (kids_joined q c bytes), length-take (f.prefix q) c.body, Rattle.std.proofs.lemmas.List.length-drop (f.prefix q) c.body)
 
   -- the children of a container whose leaves are changed
-  kids_again : (g : Chunk → Chunk) (q : P) (c : Chunk) → IsBytes c.body → (kids f q c).stop ≡ ends → f.prefix q ≤ length c.body → AllAlike g (kids f q c).chunks
+  pub kids_again : (g : Chunk → Chunk) (q : P) (c : Chunk) → IsBytes c.body → (kids f q c).stop ≡ ends → f.prefix q ≤ length c.body → AllAlike g (kids f q c).chunks
       → (kids f q (with_kids f q c (map g (kids f q c).chunks)) ≡ record { chunks = map g (kids f q c).chunks; stop = ends; left = (kids f q c).left })
       × (take (f.prefix q) (with_kids f q c (map g (kids f q c).chunks)).body ≡ take (f.prefix q) c.body)
   kids_again g q c bytes whole low h =

@@ -19,3 +19,4 @@ pub mod Avoids
 pub mod Steps
 pub mod Windows
 pub mod Rows
+pub mod Walk

@@ -1,10 +1,10 @@
 -- One step of the chunks of a list of bytes.
-use Rattle.std.proofs.Common.{◌≡◌, ℕ, zero, suc, ◌+◌, ◌<◌, ◌≤◌, Bool, true, false, ltb, List, [], ◌∷◌, length, take, drop, refl, sym, ap, ◌∙◌, arith, length-drop, Option}
+use Rattle.std.proofs.Common.{◌≡◌, ℕ, zero, suc, ◌<◌, ◌≤◌, Bool, true, false, ltb, List, [], ◌∷◌, length, take, drop, refl, ap, arith, length-drop, Option}
 use Rattle.std.specs.Prelude.{Some, None, ◌==◌}
 use Rattle.std.specs.Str.{bytes_eq}
 use Rattle.std.specs.Int.{w32, from_le_bytes}
 use Rattle.std.proofs.lemmas.Bool.{ltb-false, lt-ltb, le-ltb}
-use Rattle.container_model.specs.Chunk.{Form, wide, Chunk, Header, too_short, no_header, past_end, full_header, Run, stopped, passes, ends, chunk_of, and_then, behind, pad_len, turn, fit, read, chunks}
+use Rattle.container_model.specs.Chunk.{Form, wide, Header, too_short, no_header, past_end, full_header, Run, stopped, passes, ends, chunk_of, and_then, behind, pad_len, turn, fit, read, chunks}
 use Rattle.container_model.specs.Sizes.{Row, Sizes, plain, table, first_row, sized, riff_ahead, riff_front}
 
 -- each header takes a byte or more

@@ -8,3 +8,4 @@ pub mod Written
 pub mod Stood
 pub mod Windows
 pub mod Rows
+pub mod Walk
