@@ -123,7 +123,7 @@ module _ {V : Type 0} (it : Items V) where
       go (v ∷ vs) true e = e
       go (v ∷ vs) false e = e
 
-  has_token : (name : List ℕ) (cs : List Chunk) → has_mark name (map (item_token it) cs) ≡ has it name cs
+  pub has_token : (name : List ℕ) (cs : List Chunk) → has_mark name (map (item_token it) cs) ≡ has it name cs
   has_token name [] = refl
   has_token name (c ∷ cs) = rw (token_hit name c, has_token name cs) refl
 
