@@ -10,8 +10,9 @@ use Rattle.container_model.specs.Items.{Item, values, put_all, item_token, AreMa
 use Rattle.container_model.proofs.Items.{all_after, MakesGood, same_true}
 use Rattle.container_model.proofs.Reread.{IsPadded, ArePadded, Pads-padded}
 use Rattle.container_model.proofs.Plain.{IsPlain, ArePlain, plain_again, plain_chunks, plain_left}
+use Rattle.part_tree.specs.Names.{info_ids}
 use Rattle.carrier_model.specs.Lists.{part_of}
-use Rattle.carrier_model.specs.Info.{is_type, is_padding, list_run, made, remade, list_of, one_of, info_ids, info_items, info, fill_by, room, riff_fill, SetsInfo, ItemsSmall, InfoReady}
+use Rattle.carrier_model.specs.Info.{is_type, is_padding, list_run, made, remade, list_of, one_of, info_items, info, fill_by, room, riff_fill, SetsInfo, ItemsSmall, InfoReady}
 
 pub made_padded : (id body : List ℕ) → IsPadded (made id body)
 made_padded id body = length-replicate (pad_len riff (length body)) 0

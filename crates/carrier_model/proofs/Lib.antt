@@ -2,3 +2,5 @@ pub mod Cells
 pub mod Lists
 pub mod Info
 pub mod Views
+pub mod Quiet
+pub mod Renewed

@@ -2,7 +2,8 @@
 -- and Data Specifications 1.0, "INFO list chunk"; the room of a unit is this project's own.)
 use Rattle.std.specs.Prelude.{◌≡◌, ◌<◌, ℕ, ◌+◌, ◌-◌, ◌%◌, ◌^◌, ◌==◌, List, [], ◌∷◌, ◌++◌, length, map, take, drop, Bool, true, false, ◌&&◌, ◌||◌, nat_le, nat_lt, codes, if◌then◌else◌}
 use Rattle.std.specs.Str.{bytes_eq}
-use Rattle.std.specs.List.{AllByRecursion}
+use Rattle.std.specs.List.{AllByRecursion, list_any}
+use Rattle.part_tree.specs.Names.{info_ids}
 use Rattle.container_model.specs.Chunk.{Form, riff, wide, short, long, to_end, Chunk, spell_all, Run, ends, chunks}
 use Rattle.container_model.specs.Sizes.{plain, riff_front}
 use Rattle.container_model.specs.Units.{Fill, padded}
@@ -38,13 +39,9 @@ remade c = made c.id c.body
 abbrev pub list_of : List Chunk → List ℕ → Chunk
 list_of items rest = made (codes "LIST") (codes "INFO" ++ (spell_all (map remade items) ++ rest))
 
+-- an identifier among some
 abbrev pub one_of : List (List ℕ) → List ℕ → Bool
-one_of [] id = false
-one_of (x ∷ xs) id = bytes_eq id x || one_of xs id
-
--- the identifiers of INFO fields
-abbrev pub info_ids : List (List ℕ)
-info_ids = map codes ("IARL" ∷ "IART" ∷ "ICMS" ∷ "ICMT" ∷ "ICOP" ∷ "ICRD" ∷ "IENG" ∷ "IGNR" ∷ "IKEY" ∷ "IMED" ∷ "INAM" ∷ "IPRD" ∷ "ISBJ" ∷ "ISFT" ∷ "ISRC" ∷ "ISRF" ∷ "ITCH" ∷ [])
+one_of xs id = list_any (bytes_eq id) xs
 
 -- An item's body is its one value, where its identifier is a field's.
 abbrev pub info_items : Items (List ℕ)

@@ -9,6 +9,8 @@ ghost use Rattle.carrier_model.specs.Cells.{Test};
 ghost use Rattle.carrier_model.specs.Lists.{list_values, edit_lists, ActReady};
 ghost use Rattle.carrier_model.specs.Info.{info, info_items, SetsInfo, InfoReady, ItemsSmall};
 
+use part_tree as _;
+
 /// The values of each INFO field after an edit are its old ones updated, over all lists of INFO items.
 pub fn info_is_updated()
     ensures { (t : Test) (e : List (Item (List ℕ))) (name : List ℕ) (cs : List Chunk) → SetsInfo e → ActReady info info_items InfoReady ItemsSmall e cs
