@@ -1,1 +1,4 @@
+pub mod Fits
+pub mod Raised
+pub mod Ranges
 mod Rows

@@ -1,4 +1,5 @@
 pub mod Bext
+pub mod Body
 pub mod Broken
 pub mod Dates
 pub mod Fields
