@@ -5,7 +5,7 @@ use Rattle.std.proofs.lemmas.List.{append-nil}
 use Rattle.std.proofs.lemmas.List.Concat.{flat_map-append}
 use Rattle.container_model.specs.Chunk.{Chunk, spell, Run, ends, GivesBack}
 use Rattle.container_model.specs.Deep.{Format, kids, mend_at, mend, Whole_at, Whole, Leaf, stands, leaves_at, leaves}
-use Rattle.container_model.specs.Walk.{Step, chunk_at, end_at, body_at, along, walk_at, walk, nested_at, nested}
+use Rattle.container_model.specs.Walk.{Step, chunk_at, end_at, body_at, along, walk_at, walk, chunk_met, nested_at, nested}
 use Rattle.container_model.proofs.Codec.{IsBytes}
 use Rattle.container_model.proofs.Deep.{Moves, bytes_of, kids_bytes, each_alike, kids_again, mend_alike}
 
@@ -29,10 +29,6 @@ all_join P [] b h g = g
 all_join P (x ∷ a) b h g = (h.0, all_join P a b h.1 g)
 
 -- ---- what is met, without places
-
-abbrev pub chunk_met : {P : Type 0} → Step P → List (Leaf P)
-chunk_met (chunk_at p at c) = stands p c ∷ []
-chunk_met (end_at p at stop) = []
 
 module _ {P S : Type 0} (f : Format P S) where
   walk_by : (d : ℕ) → ((q : P) (at : ℕ) (c : Chunk) → flat_map chunk_met (walk f d q at c) ≡ nested f d q c) → (at : ℕ) (c : Chunk) (o : Option P)

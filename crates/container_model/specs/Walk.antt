@@ -36,3 +36,8 @@ nested_at f deeper c (Some q) = flat_map (deeper q) (kids f q c).chunks
 unfoldable pub nested : {P S : Type 0} → Format P S → ℕ → P → Chunk → List (Leaf P)
 nested f zero p c = stands p c ∷ []
 nested f (suc d) p c = stands p c ∷ nested_at f (nested f d) c (f.opens p c.id (take 4 c.body))
+
+-- a chunk that is met, without its place
+abbrev pub chunk_met : {P : Type 0} → Step P → List (Leaf P)
+chunk_met (chunk_at p at c) = stands p c ∷ []
+chunk_met (end_at p at stop) = []

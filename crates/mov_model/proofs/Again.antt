@@ -1,31 +1,33 @@
 -- The new movie is read as it was made.
-use Rattle.std.proofs.Common.{◌≡◌, ℕ, ◌+◌, ◌-◌, ◌^◌, ◌<◌, ◌≤◌, Bool, true, false, cond, ltb, leb, List, [], ◌∷◌, ◌++◌, length, map, drop, replicate, refl, sym, ap, subst, ◌∙◌, arith}
-use Rattle.std.specs.Prelude.{◌&&◌, ◌||◌, codes}
-use Rattle.std.specs.List.{flat_map, AllByRecursion}
-use Rattle.std.proofs.lemmas.Bool.{cond-true, and_parts, ltb-true, leb-false}
+use Rattle.std.proofs.Common.{Bool, List, [], ap, arith, cond, drop, false, leb, length, ltb, map, refl, replicate, subst, sym, true, ℕ, ◌++◌, ◌+◌, ◌-◌, ◌<◌, ◌^◌, ◌∙◌, ◌∷◌, ◌≡◌, ◌≤◌}
+use Rattle.std.specs.Prelude.{codes, ◌&&◌, ◌||◌}
+use Rattle.std.proofs.lemmas.Bool.{and_parts, cond-true, ltb-true}
 use Rattle.std.proofs.lemmas.List.{length-append, length-drop, nil_from_length}
-use Rattle.container_model.specs.Chunk.{to_end, header_bytes, pad_len, Chunk, spell, spell_all, Run, too_short, ends, Stands, Reads, Head}
-use Rattle.container_model.specs.Sizes.{Level, top, inside, atom_front}
-use Rattle.container_model.specs.Splice.{shift}
-use Rattle.container_model.specs.Units.{Cell, was, live, padded, Piece, copied, replaced, shut, units, lay, solid, solids, unit_bytes}
-use Rattle.container_model.specs.Deep.{Whole}
-use Rattle.container_model.specs.Items.{Item, put_all, edit_carrier}
-use Rattle.container_model.proofs.Codec.{IsBytes, chunks_spelled, chunks_read, chunks_joined, as_many}
+use Rattle.std.specs.List.{AllByRecursion, flat_map}
 use Rattle.container_model.proofs.Atoms.{atoms_give_back}
+use Rattle.container_model.proofs.Codec.{IsBytes, as_many, chunks_joined, chunks_read, chunks_spelled}
 use Rattle.container_model.proofs.Deep.{Alike, bytes_of}
-use Rattle.container_model.proofs.Read.{Atom, told_of, atoms_read, atoms_before, atoms_again, atoms_and, atom_sized, atom_stands_sized, atom_behind}
 use Rattle.container_model.proofs.Items.{same_true}
+use Rattle.container_model.proofs.Read.{Atom, atom_behind, atom_sized, atom_stands_sized, atoms_again, atoms_and, atoms_before, atoms_read, told_of}
 use Rattle.container_model.proofs.Units.{AllCells, lay_all}
-use Rattle.mov_model.specs.Atoms.{moov, is, format, is_padding, cell_by, cell_of, atom, atoms_in}
-use Rattle.mov_model.specs.User.{Text, user_items, udta}
-use Rattle.mov_model.specs.Tables.{relocated}
-use Rattle.mov_model.specs.Movie.{Movie, split_by, split, all_atoms, spell_movie, top_run, movie_of, padding, fill, past_gaps, hanging, has_carrier, first_cell, fresh, carry_by, carried, pieces_of, is_open, rest_behind, whole_pieces, ends_file, edit_cuts, padding_behind, new_kids, new_movie}
-use Rattle.mov_model.specs.Edited.{has_id, first_user, Supported, Fits}
-use Rattle.mov_model.proofs.Tables.{relocated_other, relocated_alike}
-use Rattle.mov_model.proofs.User.{atom_made}
-use Rattle.mov_model.proofs.Cells.{padding_no_udta, all_read, all_new, has_solid}
+use Rattle.container_model.specs.Chunk.{Chunk, Head, Reads, Run, Stands, ends, header_bytes, pad_len, spell, spell_all, to_end, too_short}
+use Rattle.container_model.specs.Deep.{Whole}
+use Rattle.container_model.specs.Items.{Item, edit_carrier, put_all}
+use Rattle.container_model.specs.Sizes.{Level, atom_front, inside, top}
+use Rattle.container_model.specs.Splice.{shift}
+use Rattle.container_model.specs.Units.{Piece, copied, lay, live, padded, replaced, shut, solids, unit_bytes}
+use Rattle.mov_model.proofs.Cells.{all_new, all_read, has_solid, padding_no_udta}
 use Rattle.mov_model.proofs.Laid.{hanging_none}
 use Rattle.mov_model.proofs.Parts.{udta_no_trak}
+use Rattle.mov_model.proofs.Tables.{relocated_alike, relocated_other}
+use Rattle.mov_model.proofs.User.{atom_made}
+use Rattle.mov_model.specs.Atoms.{atom, atoms_in, cell_by, cell_of, format, is, is_padding, moov}
+use Rattle.mov_model.specs.Edited.{Fits}
+use Rattle.mov_model.specs.Movie.{Movie, all_atoms, carried, carry_by, edit_cuts, ends_file, fill, first_cell, fresh, hanging, has_carrier, is_open, movie_of, new_kids, new_movie, padding, padding_behind, past_gaps, pieces_of, rest_behind, spell_movie, split, split_by, top_run, whole_pieces}
+use Rattle.mov_model.specs.Parts.{first_user, has_id}
+use Rattle.mov_model.specs.Support.{Supported}
+use Rattle.mov_model.specs.Tables.{relocated}
+use Rattle.mov_model.specs.User.{Text, udta, user_items}
 
 -- ---- moov among the atoms of the file
 
@@ -229,10 +231,10 @@ module _ (o : List ℕ) (bytes : IsBytes o) (sup : Supported o) where
   top_reads : Reads atom_front top (mov.before ++ mov.movie ∷ mov.behind) mov.left
   top_reads = rw (whole.0, whole.1) (chunks_read atom_front atoms_give_back top o bytes sup.atoms_end)
 
-  before_read : AllByRecursion (Atom top) mov.before
+  pub before_read : AllByRecursion (Atom top) mov.before
   before_read = (atoms_before mov.before mov.movie mov.behind mov.left top_bytes top_reads).0
 
-  at_moov : Stands atom_front top top mov.movie (spell_all mov.behind ++ mov.left) × Reads atom_front top mov.behind mov.left × (mov.movie.pad ≡ []) × (mov.movie.form ≡ to_end → spell_all mov.behind ++ mov.left ≡ [])
+  pub at_moov : Stands atom_front top top mov.movie (spell_all mov.behind ++ mov.left) × Reads atom_front top mov.behind mov.left × (mov.movie.pad ≡ []) × (mov.movie.form ≡ to_end → spell_all mov.behind ++ mov.left ≡ [])
   at_moov = let r = atoms_before mov.before mov.movie mov.behind mov.left top_bytes top_reads in atom_behind mov.movie mov.behind mov.left r.2 r.1
 
   moov_bytes : IsBytes mov.movie.body

@@ -1,17 +1,17 @@
 -- The cells of moov: what stood there, and what stands there now but for padding.
-use Rattle.std.proofs.Common.{◌≡◌, Bool, true, false, cond, List, [], ◌∷◌, ◌++◌, map, refl, sym, ap, ◌∙◌, append_assoc}
+use Rattle.std.proofs.Common.{Bool, List, [], ap, append_assoc, cond, false, map, refl, sym, true, ◌++◌, ◌∙◌, ◌∷◌, ◌≡◌}
 use Rattle.std.specs.Prelude.{codes}
-use Rattle.std.specs.List.{flat_map, AllByRecursion}
 use Rattle.std.proofs.lemmas.List.{append-nil}
 use Rattle.std.proofs.lemmas.List.Concat.{flat_map-append}
-use Rattle.container_model.specs.Chunk.{Chunk}
-use Rattle.container_model.specs.Units.{Cell, kept, gap, edited, was, live, solid, solids}
-use Rattle.container_model.specs.Items.{Item, put_all, edit_carrier}
-use Rattle.container_model.proofs.Units.{GapsArePadding, AllCells}
+use Rattle.std.specs.List.{AllByRecursion, flat_map}
 use Rattle.container_model.proofs.Items.{same_true}
-use Rattle.mov_model.specs.Atoms.{is_padding, cell_by, cell_of}
-use Rattle.mov_model.specs.User.{Text, user_items, udta}
-use Rattle.mov_model.specs.Movie.{has_carrier, first_carrier, first_cell, only_gaps, add_last, fresh, add_new, carry_by, carried, edit_by, edited_chunks}
+use Rattle.container_model.proofs.Units.{AllCells, GapsArePadding}
+use Rattle.container_model.specs.Chunk.{Chunk}
+use Rattle.container_model.specs.Items.{Item, edit_carrier, put_all}
+use Rattle.container_model.specs.Units.{Cell, edited, gap, kept, live, solid, solids, was}
+use Rattle.mov_model.specs.Atoms.{cell_by, cell_of, is_padding}
+use Rattle.mov_model.specs.Movie.{add_last, add_new, carried, carry_by, edit_by, edited_chunks, first_carrier, first_cell, fresh, has_carrier, only_gaps}
+use Rattle.mov_model.specs.User.{Text, udta, user_items}
 
 -- ---- cells as they are read
 

@@ -1,31 +1,35 @@
 -- The clauses of the edit of a movie.
-use Rattle.std.proofs.Common.{◌≡◌, ℕ, ◌+◌, ◌-◌, ◌^◌, ◌<◌, ◌≤◌, Bool, true, false, cond, List, [], ◌∷◌, ◌++◌, length, map, Option, Some, refl, sym, ap, subst, ◌∙◌, append_assoc, arith}
-use Rattle.std.specs.Prelude.{◌&&◌, codes}
-use Rattle.std.specs.Str.{bytes_eq}
-use Rattle.std.specs.List.{flat_map, AllByRecursion}
+use Rattle.std.proofs.Common.{Bool, List, Some, [], ap, arith, cond, false, leb, length, map, refl, sym, true, ℕ, ◌++◌, ◌+◌, ◌<◌, ◌∙◌, ◌∷◌, ◌≡◌, ◌≤◌}
+use Rattle.std.specs.Prelude.{codes, ◌&&◌}
 use Rattle.std.proofs.lemmas.Bool.{and_parts}
 use Rattle.std.proofs.lemmas.List.{length-append}
 use Rattle.std.proofs.lemmas.List.Concat.{flat_map-append}
-use Rattle.container_model.specs.Chunk.{Form, riff, wide, short, long, to_end, header_bytes, Chunk, spell, spell_all, Run}
-use Rattle.container_model.specs.Units.{Piece, copied, replaced, shut, lay, solid, solids, unit_bytes}
-use Rattle.container_model.specs.Deep.{Whole}
-use Rattle.container_model.specs.Items.{Item, is_nil, values, updated}
+use Rattle.std.specs.Int.{to_be_bytes, to_le_bytes, w32, w64}
+use Rattle.std.specs.List.{AllByRecursion, flat_map}
 use Rattle.container_model.proofs.Codec.{IsBytes}
 use Rattle.container_model.proofs.Deep.{all_len}
 use Rattle.container_model.proofs.Items.{same_true, values_after}
-use Rattle.container_model.proofs.Units.{units_old, units_bring, units_solids, FillsWithPadding, BringsPad}
-use Rattle.container_model.proofs.Places.{old_length, before_all, before_stays, past_moves}
-use Rattle.mov_model.specs.Atoms.{moov, is, format, is_padding, cell_of, atom, atoms_in}
-use Rattle.mov_model.specs.User.{Text, user_items, udta}
-use Rattle.mov_model.specs.Tables.{FitsRows, relocated, tables, places}
-use Rattle.mov_model.specs.Movie.{Movie, all_atoms, padding, fill, gaps_of, past_gaps, ends_open, grown, hanging, carried, edited_chunks, pieces_of, is_open, slot_behind, rest_behind, whole_pieces, ends_file, kids_at, edit_cuts, padding_behind, new_kids}
-use Rattle.mov_model.specs.Edited.{parts, first_items, first_user, Node, nodes, leaf_of, Kept, kept_in, placed, is_mdat, held, tail_of, Pieces, pieces_by, track_pieces, track_of, tracks, pieces_in, IsHeld, TrackFine, Supported, Fits, UserItems}
-use Rattle.mov_model.proofs.Tables.{moved_table, relocated_id, relocated_pad, relocated_tables, places_moved, samples_moved}
+use Rattle.container_model.proofs.Places.{before_all, before_stays, old_length, past_moves}
+use Rattle.container_model.proofs.Units.{BringsPad, FillsWithPadding, units_bring, units_old, units_solids}
+use Rattle.container_model.specs.Chunk.{Chunk, Form, Run, header_bytes, long, riff, short, spell, spell_all, to_end, wide}
+use Rattle.container_model.specs.Deep.{Whole}
+use Rattle.container_model.specs.Items.{Item, is_nil, updated, values}
+use Rattle.container_model.specs.Units.{Piece, copied, lay, replaced, shut, solid, solids, unit_bytes}
+use Rattle.mov_model.proofs.Again.{kids, kids_bytes, kids_joined, laid_alike, moov_again, moov_left, moov_padless, mov, move, now}
+use Rattle.mov_model.proofs.Cells.{gaps_carried, gaps_read, solids_carried, solids_map, was_carried, was_read}
 use Rattle.mov_model.proofs.Held.{NoMdat, held_moves}
-use Rattle.mov_model.proofs.Cells.{was_read, gaps_read, was_carried, gaps_carried, solids_carried, solids_map}
-use Rattle.mov_model.proofs.Laid.{last_units, grown_old, grown_brings, grown_new}
-use Rattle.mov_model.proofs.Parts.{KidWhole, UserWhole, edited_relocated, first_user_relocated, nodes_relocated, tracks_relocated, items_all, nodes_all, tracks_all}
-use Rattle.mov_model.proofs.Again.{mov, kids, kids_joined, kids_bytes, moov_padless, moov_left, move, now, laid_alike, moov_again, movie_again}
+use Rattle.mov_model.proofs.Laid.{grown_brings, grown_new, grown_old, last_units}
+use Rattle.mov_model.proofs.Parts.{KidWhole, UserWhole, edited_relocated, first_user_relocated, items_all, nodes_all, nodes_relocated, tracks_all, tracks_relocated}
+use Rattle.mov_model.proofs.Tables.{all_long, moved_table, places_moved, relocated_id, relocated_pad, relocated_tables, samples_moved}
+use Rattle.mov_model.specs.Atoms.{atom, atoms_in, cell_of, format, is, is_padding, moov}
+use Rattle.mov_model.specs.Edited.{Fits, UserItems}
+use Rattle.mov_model.specs.Kept.{kept_in, nodes, placed}
+use Rattle.mov_model.specs.Movie.{Movie, all_atoms, carried, edit_cuts, edited_chunks, ends_file, ends_open, fill, gaps_of, grown, hanging, is_open, kids_at, new_kids, padding, padding_behind, past_gaps, pieces_of, rest_behind, slot_behind, whole_pieces}
+use Rattle.mov_model.specs.Parts.{first_items, first_user, parts, track_of, tracks}
+use Rattle.mov_model.specs.Pieces.{held, is_mdat, pieces_by, pieces_in, tail_of, track_pieces}
+use Rattle.mov_model.specs.Support.{IsHeld, Supported, TrackFine}
+use Rattle.mov_model.specs.Tables.{FitsRows, places, relocated, tables}
+use Rattle.mov_model.specs.User.{Text, udta, user_items}
 
 -- ---- padding is not looked at
 
@@ -230,8 +234,8 @@ module _ (o : List ℕ) (bytes : IsBytes o) (sup : Supported o) (e : List (Item 
   -- clause 3
   pub new_kept : kept_in new ≡ placed (kept_in old) e
   new_kept =
-      let inside : nodes (parts new) ≡ Rattle.mov_model.specs.Edited.placed_nodes e (nodes (parts old))
-      = ap nodes new_parts ∙ nodes_all e (map (relocated f) (parts old)) user user_whole ∙ ap (Rattle.mov_model.specs.Edited.placed_nodes e) (nodes_relocated f (parts old) parts_whole) in
+      let inside : nodes (parts new) ≡ Rattle.mov_model.specs.Kept.placed_nodes e (nodes (parts old))
+      = ap nodes new_parts ∙ nodes_all e (map (relocated f) (parts old)) user user_whole ∙ ap (Rattle.mov_model.specs.Kept.placed_nodes e) (nodes_relocated f (parts old) parts_whole) in
       let rest : (atoms_in new.movie).left ≡ moov_left o bytes sup = ap (λ (r : Run). r.left) (moov_again o bytes sup e fits) in
       rw (inside, rest, behind_solids old e) refl
 
@@ -278,7 +282,7 @@ module _ (o : List ℕ) (bytes : IsBytes o) (sup : Supported o) (e : List (Item 
   track_again t w fine rows =
       let ts = tables t in
       let hs = map (λ p. held 0 p (all_atoms old)) (places ts) in
-      let found : map (λ p. held 0 p (all_atoms new)) (places (map (moved_table f) ts)) ≡ hs = ap (map (λ p. held 0 p (all_atoms new))) (places_moved f ts fine.long_rows rows) ∙ all_held (places ts) fine.chunks_inside in
+      let found : map (λ p. held 0 p (all_atoms new)) (places (map (moved_table f) ts)) ≡ hs = ap (map (λ p. held 0 p (all_atoms new))) (places_moved f ts (all_long ts fine.long_tables) rows) ∙ all_held (places ts) fine.chunks_inside in
       ap (track_pieces (all_atoms new)) (relocated_tables f t w.0 w.1) ∙ ap (pieces_by (map (moved_table f) ts)) found
       ∙ ap (λ (s : List (List (List ℕ))). record { chunks = hs; samples = s }) (samples_moved f ts (map tail_of hs))
 

@@ -1,25 +1,29 @@
 -- The edit, whole; and that nothing is edited without an item.
-use Rattle.std.proofs.Common.{◌≡◌, ℕ, ◌+◌, Bool, true, false, cond, List, [], ◌∷◌, ◌++◌, length, map, refl, ap, ◌∙◌, arith}
-use Rattle.std.specs.Prelude.{◌&&◌, not}
-use Rattle.std.specs.List.{AllByRecursion}
+use Rattle.std.proofs.Common.{Bool, List, [], ap, arith, cond, false, length, map, refl, true, ℕ, ◌++◌, ◌+◌, ◌∙◌, ◌∷◌, ◌≡◌}
+use Rattle.std.specs.Prelude.{not, ◌&&◌}
 use Rattle.std.proofs.lemmas.Bool.{le-ltb}
-use Rattle.container_model.specs.Chunk.{Chunk, spell, spell_all}
-use Rattle.container_model.specs.Sizes.{inside}
-use Rattle.container_model.specs.Splice.{Cut, shift}
-use Rattle.container_model.specs.Units.{lacks_pad, is_empty, kept_next, Piece, copied, shut, units, Fill, lay, cuts}
-use Rattle.container_model.specs.Deep.{Whole}
-use Rattle.container_model.specs.Items.{Item, is_nil, values}
+use Rattle.std.specs.List.{AllByRecursion}
 use Rattle.container_model.proofs.Codec.{IsBytes}
 use Rattle.container_model.proofs.Read.{Atom}
-use Rattle.mov_model.specs.Atoms.{moov, format, is_padding, cell_by, cell_of, atoms_in}
-use Rattle.mov_model.specs.User.{Text, user_items}
-use Rattle.mov_model.specs.Tables.{relocated}
-use Rattle.mov_model.specs.Movie.{Movie, spell_movie, movie_of, fill, gaps_of, past_gaps, ends_open, grown, hanging, pieces_of, is_open, rest_behind, whole_pieces, ends_file, kids_at, edit_cuts, padding_behind, new_kids, new_movie, new}
-use Rattle.mov_model.specs.Edited.{parts, first_items, kept_in, pieces_in, Supported, Edited, Fits, UserItems}
-use Rattle.mov_model.proofs.Tables.{relocated_none}
-use Rattle.mov_model.proofs.Again.{mov, kids, kids_joined, kids_bytes, kids_read, whole_kids, moov_left, file_bytes, movie_again}
+use Rattle.container_model.specs.Chunk.{Chunk, spell, spell_all}
+use Rattle.container_model.specs.Deep.{Whole}
+use Rattle.container_model.specs.Items.{Item, is_nil, values}
+use Rattle.container_model.specs.Sizes.{inside}
+use Rattle.container_model.specs.Splice.{Cut, shift}
+use Rattle.container_model.specs.Units.{Fill, Piece, copied, cuts, is_empty, kept_next, lacks_pad, lay, shut, units}
+use Rattle.mov_model.proofs.Again.{file_bytes, kids, kids_bytes, kids_joined, kids_read, moov_left, mov, movie_again, whole_kids}
 use Rattle.mov_model.proofs.Clauses.{new_fields, new_kept, new_pieces}
 use Rattle.mov_model.proofs.Supported.{new_supported}
+use Rattle.mov_model.proofs.Tables.{relocated_none}
+use Rattle.mov_model.specs.Atoms.{atoms_in, cell_by, cell_of, format, is_padding, moov}
+use Rattle.mov_model.specs.Edited.{Edited, Fits, UserItems}
+use Rattle.mov_model.specs.Kept.{kept_in}
+use Rattle.mov_model.specs.Movie.{Movie, edit_cuts, ends_file, ends_open, fill, gaps_of, grown, hanging, is_open, kids_at, movie_of, new, new_kids, new_movie, padding_behind, past_gaps, pieces_of, rest_behind, spell_movie, whole_pieces}
+use Rattle.mov_model.specs.Parts.{first_items, parts}
+use Rattle.mov_model.specs.Pieces.{pieces_in}
+use Rattle.mov_model.specs.Support.{Supported}
+use Rattle.mov_model.specs.Tables.{relocated}
+use Rattle.mov_model.specs.User.{Text, user_items}
 
 -- ---- without an item
 

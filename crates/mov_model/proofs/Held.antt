@@ -1,12 +1,12 @@
 -- Where the atom that holds a place stands after an edit.
-use Rattle.std.proofs.Common.{◌≡◌, ℕ, ◌+◌, ◌-◌, ◌<◌, ◌≤◌, Bool, true, false, cond, leb, List, [], ◌∷◌, ◌++◌, length, take, drop, Option, Some, None, refl, sym, ap, ◌∙◌, append_assoc, arith, inl, inr}
+use Rattle.std.proofs.Common.{Bool, List, None, Option, Some, [], ap, append_assoc, arith, cond, drop, false, inl, inr, leb, length, refl, sym, take, true, ℕ, ◌++◌, ◌+◌, ◌-◌, ◌<◌, ◌∙◌, ◌∷◌, ◌≡◌, ◌≤◌}
 use Rattle.std.specs.Prelude.{◌&&◌, ◌⊎◌}
+use Rattle.std.proofs.lemmas.Bool.{cases_lt, le-ltb, leb-true, lt-ltb}
+use Rattle.std.proofs.lemmas.List.{drop-append-le, drop_all, length-append, take_at}
 use Rattle.std.specs.List.{AllByRecursion}
-use Rattle.std.proofs.lemmas.Bool.{leb-true, le-ltb, lt-ltb, cases_lt}
-use Rattle.std.proofs.lemmas.List.{length-append, drop_all, drop-append-le, take_at}
 use Rattle.container_model.proofs.Units.{drop_past}
-use Rattle.container_model.specs.Chunk.{header_bytes, Chunk, spell, spell_all}
-use Rattle.mov_model.specs.Edited.{head_length, tail_of, is_mdat, next_number, held_here, held}
+use Rattle.container_model.specs.Chunk.{Chunk, header_bytes, spell, spell_all}
+use Rattle.mov_model.specs.Pieces.{head_length, held, held_here, is_mdat, next_number, tail_of}
 
 -- the number after some atoms
 abbrev pub numbered : ℕ → List Chunk → ℕ

@@ -1,13 +1,13 @@
 -- How long what is laid is, where the last slot goes on behind moov.
-use Rattle.std.proofs.Common.{◌≡◌, ℕ, ◌+◌, Bool, true, false, List, [], ◌∷◌, ◌++◌, length, map, refl, sym, ap, ◌∙◌, append_assoc, arith}
-use Rattle.std.specs.Prelude.{◌&&◌, not}
+use Rattle.std.proofs.Common.{Bool, List, [], ap, append_assoc, arith, false, length, map, refl, sym, true, ℕ, ◌++◌, ◌+◌, ◌∙◌, ◌∷◌, ◌≡◌}
+use Rattle.std.specs.Prelude.{not, ◌&&◌}
+use Rattle.std.proofs.lemmas.List.{append-nil, length-append}
 use Rattle.std.specs.List.{flat_map}
-use Rattle.std.proofs.lemmas.List.{length-append, append-nil}
-use Rattle.container_model.specs.Chunk.{Chunk, spell, spell_all}
-use Rattle.container_model.specs.Units.{Cell, kept, gap, edited, padded, lacks_pad, Piece, copied, replaced, Slot, shut, begun, is_empty, closed, kept_next, units, old_bytes, unit_bytes, lay}
-use Rattle.container_model.proofs.Units.{BringsPad, spell_all-append}
 use Rattle.container_model.proofs.Places.{old_length}
-use Rattle.mov_model.specs.Movie.{padding, fill, ends_open, grown, hanging}
+use Rattle.container_model.proofs.Units.{BringsPad, spell_all-append}
+use Rattle.container_model.specs.Chunk.{Chunk, spell, spell_all}
+use Rattle.container_model.specs.Units.{Cell, Piece, Slot, begun, closed, copied, edited, gap, is_empty, kept, kept_next, lacks_pad, lay, old_bytes, padded, replaced, shut, unit_bytes, units}
+use Rattle.mov_model.specs.Movie.{ends_open, fill, grown, hanging, padding}
 
 -- only the last piece ends the list
 abbrev pub LastOnly : List Piece → Type 0

@@ -1,22 +1,26 @@
 -- What is not too large fits.
-use Rattle.std.proofs.Common.{◌≡◌, ℕ, ◌^◌, ◌<◌, ◌≤◌, Bool, true, false, cond, List, [], ◌∷◌, ◌++◌, length, map, Some, None, refl, sym, ap, subst, arith}
+use Rattle.std.proofs.Common.{Bool, List, None, Some, [], ap, arith, cond, false, length, map, refl, subst, sym, true, ℕ, ◌++◌, ◌<◌, ◌^◌, ◌∷◌, ◌≡◌, ◌≤◌}
 use Rattle.std.specs.Prelude.{codes}
-use Rattle.std.specs.List.{flat_map, AllByRecursion}
 use Rattle.std.proofs.lemmas.Bool.{ltb-false}
-use Rattle.container_model.specs.Chunk.{Chunk}
-use Rattle.container_model.specs.Splice.{shift}
-use Rattle.container_model.specs.Items.{Item, put_all, edit_carrier}
+use Rattle.std.specs.List.{AllByRecursion, flat_map}
 use Rattle.container_model.proofs.Codec.{IsBytes}
 use Rattle.container_model.proofs.Items.{same_true}
-use Rattle.mov_model.specs.Atoms.{is}
-use Rattle.mov_model.specs.User.{Text, user_items, udta}
+use Rattle.container_model.specs.Chunk.{Chunk}
+use Rattle.container_model.specs.Items.{Item, edit_carrier, put_all}
 use Rattle.container_model.specs.Rows.{be32, be64}
-use Rattle.mov_model.specs.Tables.{rows, tables, FitsRows}
-use Rattle.mov_model.specs.Movie.{Movie, movie_of, has_carrier, fresh, edit_cuts, new}
-use Rattle.mov_model.specs.Edited.{Node, nodes, kept, parts, first_user, tracks, Fits, Supported, UserItems, Edited}
-use Rattle.mov_model.specs.Large.{Size, sized, passes, first_passing, user_sizes, row_sizes, table_sizes, all_sizes, too_large}
+use Rattle.container_model.specs.Splice.{shift}
+use Rattle.mov_model.specs.Kept.{kept}
 use Rattle.mov_model.proofs.Edited.{edited_law, new_nothing}
 use Rattle.mov_model.proofs.Parts.{placed_nothing}
+use Rattle.mov_model.specs.Atoms.{is}
+use Rattle.mov_model.specs.Edited.{Edited, Fits, UserItems}
+use Rattle.mov_model.specs.Kept.{Node, nodes}
+use Rattle.mov_model.specs.Large.{Size, all_sizes, first_passing, passes, row_sizes, sized, table_sizes, too_large, user_sizes}
+use Rattle.mov_model.specs.Movie.{Movie, edit_cuts, fresh, has_carrier, movie_of, new}
+use Rattle.mov_model.specs.Parts.{first_user, parts, tracks}
+use Rattle.mov_model.specs.Support.{Supported}
+use Rattle.mov_model.specs.Tables.{FitsRows, rows, tables}
+use Rattle.mov_model.specs.User.{Text, udta, user_items}
 
 abbrev pub Within : List Size → Type 0
 Within ss = AllByRecursion (λ (s : Size). s.size ≤ s.limit) ss

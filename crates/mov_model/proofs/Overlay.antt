@@ -1,18 +1,18 @@
 -- To relocate the tables in the old file and then to lay the edit gives the new file.
-use Rattle.std.proofs.Common.{◌≡◌, ℕ, ◌+◌, Bool, true, false, cond, List, [], ◌∷◌, ◌++◌, length, map, refl, sym, ap, ◌∙◌, append_assoc, arith}
-use Rattle.std.specs.Prelude.{◌&&◌, ◌||◌, not, codes}
-use Rattle.std.specs.List.{flat_map, AllByRecursion}
+use Rattle.std.proofs.Common.{Bool, List, [], ap, append_assoc, cond, false, leb, length, map, refl, sym, true, ℕ, ◌++◌, ◌+◌, ◌∙◌, ◌∷◌, ◌≡◌}
+use Rattle.std.specs.Prelude.{codes, not, ◌&&◌, ◌||◌}
 use Rattle.std.proofs.lemmas.List.{append-nil}
 use Rattle.std.proofs.lemmas.List.Concat.{flat_map-append}
-use Rattle.container_model.specs.Chunk.{Chunk, spell, spell_all}
-use Rattle.container_model.specs.Units.{Cell, kept, gap, edited, was, padded, lacks_pad, Piece, copied, replaced, Slot, shut, begun, is_empty, closed, kept_next, units, old_bytes, unit_bytes, lay, cuts}
-use Rattle.container_model.specs.Items.{Item, put_all, edit_carrier}
+use Rattle.std.specs.List.{AllByRecursion, flat_map}
 use Rattle.container_model.proofs.Deep.{Alike, alike_len}
-use Rattle.container_model.proofs.Units.{spell_all-append, BringsPad}
+use Rattle.container_model.proofs.Units.{BringsPad, spell_all-append}
+use Rattle.container_model.specs.Chunk.{Chunk, spell, spell_all}
+use Rattle.container_model.specs.Items.{Item, edit_carrier, put_all}
+use Rattle.container_model.specs.Units.{Cell, Piece, Slot, begun, closed, copied, cuts, edited, gap, is_empty, kept, kept_next, lacks_pad, lay, old_bytes, padded, replaced, shut, unit_bytes, units, was}
 use Rattle.mov_model.proofs.Laid.{LastOnly}
-use Rattle.mov_model.specs.Atoms.{is, is_padding, cell_by, cell_of, atom}
-use Rattle.mov_model.specs.User.{Text, user_items, udta}
-use Rattle.mov_model.specs.Movie.{padding, fill, ends_open, grown, hanging, has_carrier, first_cell, only_gaps, add_last, fresh, add_new, carry_by, carried}
+use Rattle.mov_model.specs.Atoms.{atom, cell_by, cell_of, is, is_padding}
+use Rattle.mov_model.specs.Movie.{add_last, add_new, carried, carry_by, ends_open, fill, first_cell, fresh, grown, hanging, has_carrier, only_gaps, padding}
+use Rattle.mov_model.specs.User.{Text, udta, user_items}
 
 module _ (g : Chunk → Chunk) where
   -- pieces whose copied chunks are changed

@@ -1,22 +1,24 @@
 -- What an edit and a relocation do to the atoms of moov.
-use Rattle.std.proofs.Common.{◌≡◌, ℕ, Bool, true, false, cond, List, [], ◌∷◌, ◌++◌, map, refl, sym, ap, ◌∙◌}
-use Rattle.std.specs.Prelude.{◌||◌, codes}
-use Rattle.std.specs.Str.{bytes_eq}
-use Rattle.std.specs.List.{flat_map, AllByRecursion}
+use Rattle.std.proofs.Common.{Bool, List, [], ap, cond, false, map, refl, sym, true, ℕ, ◌++◌, ◌∙◌, ◌∷◌, ◌≡◌}
+use Rattle.std.specs.Prelude.{codes, ◌||◌}
 use Rattle.std.proofs.lemmas.List.{append-nil}
 use Rattle.std.proofs.lemmas.List.Concat.{flat_map-append}
-use Rattle.container_model.specs.Chunk.{Chunk, Run, ends}
-use Rattle.container_model.specs.Deep.{Whole, Token}
-use Rattle.container_model.specs.Items.{Item, put_all, put_marks, item_token, edit_carrier}
+use Rattle.std.specs.List.{AllByRecursion, flat_map}
+use Rattle.std.specs.Str.{bytes_eq}
 use Rattle.container_model.proofs.Codec.{IsBytes}
 use Rattle.container_model.proofs.Items.{same_true, tokens_after}
-use Rattle.mov_model.specs.Atoms.{moov, is, format}
-use Rattle.mov_model.specs.User.{Text, user_items, udta}
-use Rattle.mov_model.specs.Tables.{relocated}
-use Rattle.mov_model.specs.Movie.{has_carrier, first_carrier, fresh, edit_by, edited_chunks}
-use Rattle.mov_model.specs.Edited.{first_items, Node, other, user, plain_node, user_node, nodes, new_node, placed_nodes, first_user, track_of}
+use Rattle.container_model.specs.Chunk.{Chunk, Run, ends}
+use Rattle.container_model.specs.Deep.{Token, Whole}
+use Rattle.container_model.specs.Items.{Item, edit_carrier, item_token, put_all, put_marks}
+use Rattle.mov_model.specs.Kept.{user}
 use Rattle.mov_model.proofs.Tables.{relocated_id, relocated_other, relocated_tokens}
-use Rattle.mov_model.proofs.User.{SetsUser, edited_again, fresh_again, all_made}
+use Rattle.mov_model.proofs.User.{SetsUser, all_made, edited_again, fresh_again}
+use Rattle.mov_model.specs.Atoms.{format, is, moov}
+use Rattle.mov_model.specs.Kept.{Node, new_node, nodes, other, placed_nodes, plain_node, user_node}
+use Rattle.mov_model.specs.Movie.{edit_by, edited_chunks, first_carrier, fresh, has_carrier}
+use Rattle.mov_model.specs.Parts.{first_items, first_user, track_of}
+use Rattle.mov_model.specs.Tables.{relocated}
+use Rattle.mov_model.specs.User.{Text, udta, user_items}
 
 pub udta_no_trak : (c : Chunk) → udta.is c ≡ true → is c (codes "trak") ≡ false
 udta_no_trak c u = rw (same_true c.id (codes "udta") u) refl

@@ -1,32 +1,33 @@
 -- The new movie is the old one with its tables relocated in their places, then the slots replaced, then the size of moov set.
-use Rattle.std.proofs.Common.{◌≡◌, ℕ, ◌+◌, Bool, true, false, cond, List, [], ◌∷◌, ◌++◌, length, map, take, drop, Some, refl, sym, ap, ◌∙◌, append_assoc, arith}
-use Rattle.std.specs.Prelude.{◌&&◌, codes}
-use Rattle.std.specs.List.{flat_map, AllByRecursion}
+use Rattle.std.proofs.Common.{Bool, List, Some, [], ap, append_assoc, arith, cond, drop, false, length, map, refl, sym, take, true, ℕ, ◌++◌, ◌+◌, ◌∙◌, ◌∷◌, ◌≡◌}
+use Rattle.std.specs.Prelude.{codes, ◌&&◌}
 use Rattle.std.proofs.lemmas.Bool.{le-ltb}
-use Rattle.std.proofs.lemmas.List.{length-append, append-nil, take_at, drop_at}
-use Rattle.container_model.specs.Chunk.{header_bytes, Chunk, spell_all}
-use Rattle.container_model.specs.Sizes.{inside}
-use Rattle.container_model.specs.Splice.{Cut, splice, splice_from, shift}
-use Rattle.container_model.specs.Units.{lacks_pad, Piece, shut, old_bytes, lay, cuts}
-use Rattle.container_model.specs.Deep.{Whole}
-use Rattle.container_model.specs.Items.{Item, is_nil}
+use Rattle.std.proofs.lemmas.List.{append-nil, drop_at, length-append, take_at}
+use Rattle.std.specs.List.{AllByRecursion, flat_map}
 use Rattle.container_model.proofs.Codec.{IsBytes}
 use Rattle.container_model.proofs.Deep.{Alike, all_len}
 use Rattle.container_model.proofs.Read.{Atom}
-use Rattle.container_model.proofs.Units.{From, splice_past, lay_splices, cuts_from, spell_all-append}
-use Rattle.mov_model.specs.Atoms.{moov, format, cell_of, atom, atoms_in}
-use Rattle.mov_model.specs.User.{Text, user_items, udta}
-use Rattle.mov_model.specs.Tables.{relocated}
-use Rattle.mov_model.specs.Movie.{Movie, all_atoms, spell_movie, movie_of, fill, gaps_of, past_gaps, ends_open, grown, hanging, carried, pieces_of, is_open, slot_behind, rest_behind, whole_pieces, ends_file, kids_at, edit_cuts, padding_behind, new_kids, new_movie, overlaid, with_size, new}
-use Rattle.mov_model.specs.Edited.{Supported, held}
+use Rattle.container_model.proofs.Units.{From, cuts_from, lay_splices, spell_all-append, splice_past}
+use Rattle.container_model.specs.Chunk.{Chunk, header_bytes, spell_all}
+use Rattle.container_model.specs.Deep.{Whole}
+use Rattle.container_model.specs.Items.{Item, is_nil}
+use Rattle.container_model.specs.Sizes.{inside}
+use Rattle.container_model.specs.Splice.{Cut, shift, splice, splice_from}
+use Rattle.container_model.specs.Units.{Piece, cuts, lacks_pad, lay, old_bytes, shut}
+use Rattle.mov_model.proofs.Again.{file_bytes, kids, kids_bytes, kids_joined, kids_read, moov_padless, whole_kids}
+use Rattle.mov_model.proofs.Cells.{was_carried, was_read}
+use Rattle.mov_model.proofs.Clauses.{behind_split, header_len, opened_last, whole_brings}
 use Rattle.mov_model.proofs.Held.{held_bytes}
-use Rattle.mov_model.proofs.Tables.{relocated_other, relocated_alike}
-use Rattle.mov_model.proofs.Cells.{was_read, was_carried}
 use Rattle.mov_model.proofs.Laid.{grown_bytes, grown_laid}
-use Rattle.mov_model.proofs.Clauses.{behind_split, opened_last, whole_brings, header_len}
-use Rattle.mov_model.proofs.Overlay.{changed_piece, Fixed, changed_cuts, changed_lay, changed_grown, grown_fixed, changed_brings, changed_last, changed_open, changed_hanging, fixed_units, changed_old, fixed_carried}
-use Rattle.mov_model.proofs.Spans.{around, open_left, last}
-use Rattle.mov_model.proofs.Again.{kids, kids_joined, kids_bytes, kids_read, whole_kids, moov_padless, file_bytes}
+use Rattle.mov_model.proofs.Overlay.{Fixed, changed_brings, changed_cuts, changed_grown, changed_hanging, changed_last, changed_lay, changed_old, changed_open, changed_piece, fixed_carried, fixed_units, grown_fixed}
+use Rattle.mov_model.proofs.Spans.{around, last, open_left}
+use Rattle.mov_model.proofs.Tables.{relocated_alike, relocated_other}
+use Rattle.mov_model.specs.Atoms.{atom, atoms_in, cell_of, format, moov}
+use Rattle.mov_model.specs.Movie.{Movie, all_atoms, carried, edit_cuts, ends_file, ends_open, fill, gaps_of, grown, hanging, is_open, kids_at, movie_of, new, new_kids, new_movie, overlaid, padding_behind, pieces_of, rest_behind, spell_movie, whole_pieces, with_size}
+use Rattle.mov_model.specs.Pieces.{held}
+use Rattle.mov_model.specs.Support.{Supported}
+use Rattle.mov_model.specs.Tables.{relocated}
+use Rattle.mov_model.specs.User.{Text, udta, user_items}
 
 module _ (m : Movie) (e : List (Item Text)) (joined : spell_all (atoms_in m.movie).chunks ++ (atoms_in m.movie).left ≡ m.movie.body) (no_pad : m.movie.pad ≡ [])
     (fine : AllByRecursion (λ c. (lacks_pad c ≡ false) × Alike c (relocated (shift (edit_cuts m e)) c)) (atoms_in m.movie).chunks) where

@@ -1,20 +1,20 @@
 -- Before its tables are relocated the new movie is the old one with the slots replaced, and the size of moov set.
-use Rattle.std.proofs.Common.{◌≡◌, ℕ, ◌+◌, Bool, true, false, cond, List, [], ◌∷◌, ◌++◌, length, map, take, drop, refl, sym, ap, ◌∙◌, append_assoc, arith}
+use Rattle.std.proofs.Common.{Bool, List, [], ap, append_assoc, arith, cond, drop, false, length, map, refl, sym, take, true, ℕ, ◌++◌, ◌+◌, ◌∙◌, ◌∷◌, ◌≡◌}
 use Rattle.std.specs.Prelude.{◌&&◌}
-use Rattle.std.specs.List.{flat_map}
 use Rattle.std.proofs.lemmas.Bool.{and_parts}
-use Rattle.std.proofs.lemmas.List.{length-append, append-nil, take_at, drop_at}
-use Rattle.container_model.specs.Chunk.{header_bytes, Chunk, spell_all}
-use Rattle.container_model.specs.Splice.{splice, splice_from}
-use Rattle.container_model.specs.Units.{shut, old_bytes, lay}
+use Rattle.std.proofs.lemmas.List.{append-nil, drop_at, length-append, take_at}
+use Rattle.std.specs.List.{flat_map}
+use Rattle.container_model.proofs.Units.{From, cuts_from, lay_splices, spell_all-append, splice_past, units_old}
+use Rattle.container_model.specs.Chunk.{Chunk, header_bytes, spell_all}
 use Rattle.container_model.specs.Items.{Item, is_nil}
-use Rattle.container_model.proofs.Units.{From, splice_past, lay_splices, units_old, cuts_from, spell_all-append}
-use Rattle.mov_model.specs.Atoms.{cell_of, atoms_in}
-use Rattle.mov_model.specs.User.{Text, user_items, udta}
-use Rattle.mov_model.specs.Movie.{Movie, all_atoms, spell_movie, fill, gaps_of, past_gaps, grown, hanging, carried, pieces_of, is_open, slot_behind, rest_behind, whole_pieces, ends_file, kids_at, edit_cuts, padding_behind, laid_kids, laid_movie, with_size}
-use Rattle.mov_model.proofs.Cells.{was_read, was_carried}
-use Rattle.mov_model.proofs.Laid.{last_units, grown_bytes, grown_laid}
+use Rattle.container_model.specs.Splice.{splice, splice_from}
+use Rattle.container_model.specs.Units.{lay, old_bytes, shut}
+use Rattle.mov_model.proofs.Cells.{was_carried, was_read}
 use Rattle.mov_model.proofs.Clauses.{behind_split, opened_last, whole_brings}
+use Rattle.mov_model.proofs.Laid.{grown_bytes, grown_laid, last_units}
+use Rattle.mov_model.specs.Atoms.{atoms_in, cell_of}
+use Rattle.mov_model.specs.Movie.{Movie, carried, edit_cuts, ends_file, fill, gaps_of, grown, hanging, is_open, kids_at, laid_kids, laid_movie, padding_behind, pieces_of, rest_behind, slot_behind, spell_movie, whole_pieces, with_size}
+use Rattle.mov_model.specs.User.{Text, udta, user_items}
 
 nil_is : (x : List ℕ) → is_nil x ≡ true → x ≡ []
 nil_is [] e = refl

@@ -1,24 +1,35 @@
 -- The new movie is supported.
-use Rattle.std.proofs.Common.{◌≡◌, ℕ, ◌^◌, ◌≤◌, Bool, true, false, cond, List, [], ◌∷◌, ◌++◌, length, map, refl, sym, ap, subst, ◌∙◌}
-use Rattle.std.specs.Prelude.{◌||◌, codes}
+use Rattle.std.proofs.Common.{Bool, List, [], ap, cond, false, length, map, refl, subst, sym, true, ℕ, ◌++◌, ◌^◌, ◌∙◌, ◌∷◌, ◌≡◌, ◌≤◌}
+use Rattle.std.specs.Prelude.{codes, ◌||◌}
 use Rattle.std.specs.List.{AllByRecursion}
-use Rattle.container_model.specs.Chunk.{Chunk, Run, ends}
-use Rattle.container_model.specs.Units.{solids}
-use Rattle.container_model.specs.Deep.{Whole}
-use Rattle.container_model.specs.Items.{Item, put_all, edit_carrier}
 use Rattle.container_model.proofs.Codec.{IsBytes}
-use Rattle.container_model.proofs.Units.{All-both}
 use Rattle.container_model.proofs.Items.{same_true}
-use Rattle.mov_model.specs.Atoms.{moov, is, format, is_padding}
-use Rattle.mov_model.specs.User.{Text, user_items, udta}
-use Rattle.mov_model.specs.Tables.{FitsRows, relocated, tables, places}
-use Rattle.mov_model.specs.Movie.{Movie, all_atoms, spell_movie, has_carrier, first_carrier, fresh, edit_by, edited_chunks}
-use Rattle.mov_model.specs.Edited.{parts, has_id, first_user, is_refused, opened_once, tables_once, ids, tracks, IsHeld, TrackFine, MovieFine, Supported, Fits, UserItems}
-use Rattle.mov_model.proofs.Tables.{relocated_id, relocated_tokens, relocated_tables, relocated_references, relocated_whole, places_moved, long_all, others_all, ids_moved}
+use Rattle.container_model.proofs.Units.{All-both}
+use Rattle.container_model.specs.Chunk.{Chunk, Run, ends}
+use Rattle.container_model.specs.Deep.{Whole}
+use Rattle.container_model.specs.Items.{Item, edit_carrier, put_all}
+use Rattle.container_model.specs.Units.{solids}
+use Rattle.mov_model.proofs.Again.{file_again, moov_again, mov, move, movie_again, now}
+use Rattle.mov_model.proofs.Kind.{moov_first, same_first}
+use Rattle.mov_model.specs.Kind.{is_movie}
+use Rattle.container_model.proofs.Read.{Atom, AtomForm, told_of}
+use Rattle.container_model.specs.Sizes.{top}
+use Rattle.container_model.specs.Chunk.{Form, header_bytes, spell, spell_all}
+use Rattle.std.proofs.Common.{append_assoc, inl, inr, arith, ◌+◌}
+use Rattle.std.proofs.lemmas.List.{length-append}
+use Rattle.mov_model.proofs.Again.{at_moov, before_read, file_bytes}
+use Rattle.mov_model.proofs.Clauses.{all_tracks, behind_solids, held_again, new_parts, new_tracks, parts_whole, user_whole}
+use Rattle.mov_model.proofs.Parts.{KidWhole, UserWhole, first_user_relocated, has_relocated, udta_no_trak}
+use Rattle.mov_model.proofs.Tables.{all_long, others_all, places_moved, relocated_id, relocated_names, relocated_references, relocated_tables, relocated_whole, short_all}
 use Rattle.mov_model.proofs.User.{edited_again, fresh_again}
-use Rattle.mov_model.proofs.Parts.{KidWhole, UserWhole, udta_no_trak, first_user_relocated, has_relocated}
-use Rattle.mov_model.proofs.Again.{mov, move, now, moov_again, movie_again, file_again}
-use Rattle.mov_model.proofs.Clauses.{behind_solids, all_tracks, new_parts, new_tracks, user_whole, parts_whole, held_again}
+use Rattle.mov_model.specs.Atoms.{format, is, is_padding, moov}
+use Rattle.mov_model.specs.Edited.{Fits, UserItems}
+use Rattle.mov_model.specs.Movie.{Movie, all_atoms, edit_by, edited_chunks, first_carrier, fresh, has_carrier, spell_movie}
+use Rattle.mov_model.specs.Parts.{first_user, has_id, parts, tracks}
+use Rattle.mov_model.specs.Reading.{no_twice}
+use Rattle.mov_model.specs.Support.{IsHeld, MovieFine, Supported, TrackFine, is_refused}
+use Rattle.mov_model.specs.Tables.{FitsRows, places, relocated, tables}
+use Rattle.mov_model.specs.User.{Text, udta, user_items}
 
 -- ---- what holds of each atom of moov after an edit
 
@@ -130,13 +141,12 @@ module _ (o : List ℕ) (bytes : IsBytes o) (sup : Supported o) (e : List (Item 
       let same = relocated_tables f t w.0 w.1 in
       let refs = relocated_references f t w.0 w.1 in
       record {
-        once = ap opened_once (relocated_tokens f t w.0 w.1) ∙ h.once;
-        no_table_twice = ap (λ (cs : List Chunk). tables_once (ids cs)) same ∙ ap tables_once (ids_moved f ts) ∙ h.no_table_twice;
-        long_rows = rw same (long_all f ts h.long_rows);
-        long_others = rw same (others_all f ts h.long_others);
-        one_reference = rw refs h.one_reference;
+        once = ap (no_twice []) (relocated_names f t w.0 w.1) ∙ h.once;
+        no_other_offsets = rw same (others_all f ts h.no_other_offsets);
+        long_tables = rw same (short_all f ts h.long_tables);
+        long_references = rw refs h.long_references;
         local = rw refs h.local;
-        chunks_inside = rw (same, places_moved f ts h.long_rows rows) (held_all (places ts) h.chunks_inside);
+        chunks_inside = rw (same, places_moved f ts (all_long ts h.long_tables) rows) (held_all (places ts) h.chunks_inside);
       }
 
   tracks_fine : (ts : List Chunk) → AllByRecursion KidWhole ts → AllByRecursion (TrackFine (all_atoms old)) ts → AllByRecursion (λ t. AllByRecursion (FitsRows f) (tables t)) ts → AllByRecursion (TrackFine (all_atoms new)) (map (relocated f) ts)
@@ -170,8 +180,32 @@ module _ (o : List ℕ) (bytes : IsBytes o) (sup : Supported o) (e : List (Item 
     few_parts = fits.few_parts;
   }
 
+  moov_form : AtomForm new.movie.form
+  moov_form =
+      let s = (at_moov o bytes sup).0 in
+      let t = told_of top top (spell old.movie ++ (spell_all old.behind ++ old.left)) old.movie.id (old.movie.body ++ (old.movie.pad ++ (spell_all old.behind ++ old.left))) old.movie.form (length old.movie.body) s.header_read in
+      t.4
+
+  moov_len : length new.movie.body + 8 ≤ 2 ^ 26
+  moov_len = omega (arith, fits.movie_small, length-append (header_bytes new.movie.form new.movie.id (length new.movie.body)) (new.movie.body ++ new.movie.pad), length-append new.movie.body new.movie.pad, head new.movie.form moov_form)
+    where
+      head : (form : Form) → AtomForm form → 8 ≤ length (header_bytes form new.movie.id (length new.movie.body))
+      head form (inl e) = rw (e, sup.movie.is_moov) (omega arith)
+      head form (inr (inl e)) = rw (e, sup.movie.is_moov) (omega arith)
+      head form (inr (inr e)) = rw (e, sup.movie.is_moov) (omega arith)
+
+  new_kind : is_movie (spell_movie new) ≡ true
+  new_kind = go old.before (before_read o bytes sup) (ap is_movie (file_bytes o bytes sup) ∙ sup.kind)
+    where
+      go : (a : List Chunk) → AllByRecursion (Atom top) a → is_movie (spell_all (a ++ old.movie ∷ old.behind) ++ old.left) ≡ true → is_movie (spell_all (a ++ new.movie ∷ new.behind) ++ new.left) ≡ true
+      go [] r k = ap is_movie (append_assoc (spell new.movie) (spell_all new.behind) new.left) ∙ moov_first new.movie (spell_all new.behind ++ new.left) moov_form sup.movie.is_moov moov_len
+      go (c ∷ a) r k =
+          ap is_movie (append_assoc (spell c) (spell_all (a ++ new.movie ∷ new.behind)) new.left)
+          ∙ same_first c (spell_all (a ++ old.movie ∷ old.behind) ++ old.left) (spell_all (a ++ new.movie ∷ new.behind) ++ new.left) r.0 (ap is_movie (sym (append_assoc (spell c) (spell_all (a ++ old.movie ∷ old.behind)) old.left)) ∙ k)
+
   pub new_supported : Supported (spell_movie new)
   new_supported = record {
+    kind = new_kind;
     atoms_end = ap (λ (r : Run). r.stop) (file_again o bytes sup e fits);
     has_moov = ap (λ (r : Run). has_id (codes "moov") r.chunks) (file_again o bytes sup e fits) ∙ no_moov-append (codes "moov") old.before new.movie new.behind (rw sup.movie.is_moov refl);
     movie = subst MovieFine (sym (movie_again o bytes sup e fits)) new_fine;

@@ -1,22 +1,25 @@
 -- A relocated track: the same tables, but for the places of chunks, and these are the changed ones.
-use Rattle.std.proofs.Common.{◌≡◌, ℕ, zero, suc, ◌+◌, ◌*◌, ◌^◌, ◌<◌, ◌≤◌, Bool, true, false, ltb, List, [], ◌∷◌, ◌++◌, length, map, take, drop, Option, Some, None, refl, sym, ap, subst, ◌∙◌, arith}
+use Rattle.std.proofs.Common.{Bool, List, None, Option, Some, [], ap, arith, drop, false, length, ltb, map, refl, suc, sym, take, true, zero, ℕ, ◌*◌, ◌++◌, ◌+◌, ◌<◌, ◌^◌, ◌∙◌, ◌∷◌, ◌≡◌, ◌≤◌}
 use Rattle.std.specs.Prelude.{codes}
-use Rattle.std.specs.List.{flat_map, AllByRecursion}
-use Rattle.std.specs.Int.{w32, from_be_bytes}
 use Rattle.std.proofs.lemmas.Bool.{ltb-false, ltb-true}
-use Rattle.std.proofs.lemmas.List.{length-append, length-take, length-drop, take_at, drop_at, take_all, drop_all, take-append-drop, drop-drop, append-nil}
-use Rattle.container_model.specs.Chunk.{Chunk}
-use Rattle.container_model.specs.Deep.{mend_at, mend, Whole, Leaf, stands, leaves, tokens}
-use Rattle.container_model.proofs.Rows.{Spells, be32_spells, be64_spells, changed_len, changed_behind, changed_numbers, changed_none}
-use Rattle.container_model.proofs.Codec.{IsBytes, IsBytes-drop}
+use Rattle.std.proofs.lemmas.List.{append-nil, drop-drop, drop_all, drop_at, length-append, length-drop, length-take, take-append-drop, take_all, take_at}
+use Rattle.std.specs.Int.{from_be_bytes, w32}
+use Rattle.std.specs.List.{AllByRecursion, flat_map}
 use Rattle.container_model.proofs.Atoms.{atoms_give_back}
-use Rattle.container_model.proofs.Moved.{atom_moves}
-use Rattle.container_model.proofs.Deep.{Alike, mend_alike, mend_leaves, mend_tokens, mend_whole, mend_same}
+use Rattle.container_model.proofs.Codec.{IsBytes, IsBytes-drop}
+use Rattle.container_model.proofs.Deep.{Alike, mend_alike, mend_leaves, mend_same, mend_tokens, mend_whole}
 use Rattle.container_model.proofs.Items.{same_true}
-use Rattle.mov_model.specs.Atoms.{Place, moov, trak, mdia, minf, stbl, dinf, is, opens, format}
+use Rattle.container_model.proofs.Moved.{atom_moves}
+use Rattle.container_model.proofs.Rows.{Spells, be32_spells, be64_spells, changed_behind, changed_len, changed_none, changed_numbers}
+use Rattle.container_model.proofs.Walk.{mend_nested}
+use Rattle.container_model.specs.Chunk.{Chunk}
+use Rattle.container_model.specs.Deep.{Leaf, Whole, leaves, mend, mend_at, stands, tokens}
+use Rattle.container_model.specs.Items.{listed}
 use Rattle.container_model.specs.Rows.{Width, be32, be64, changed}
-use Rattle.mov_model.specs.Tables.{LongOther, in_dinf, references, count, rows, with_rows, places_in, LongRows, FitsRows, moved_body, moved_leaf, relocated, in_stbl, tables, places, runs_in, sizes_in, samples}
-use Rattle.mov_model.specs.Edited.{blank_rows, look_table, look}
+use Rattle.mov_model.specs.Atoms.{Place, dinf, file, format, is, mdia, minf, moov, opens, stbl, trak, user_data}
+use Rattle.mov_model.specs.Kept.{blank_rows, look, look_table}
+use Rattle.mov_model.specs.Reading.{names, names_of, once}
+use Rattle.mov_model.specs.Tables.{FitsRows, count, in_dinf, in_stbl, is_other_offsets, is_short_table, moved_body, moved_leaf, need, places, places_in, references, relocated, rows, runs_in, samples, sizes_in, tables, with_rows}
 
 module _ (w : Width) (bound : ℕ) (sp : Spells w bound) (f : ℕ → ℕ) where
   -- ---- a table
@@ -80,6 +83,20 @@ module _ (w : Width) (bound : ℕ) (sp : Spells w bound) (f : ℕ → ℕ) (copi
 
 -- ---- tables, by their identifiers
 
+-- a table of chunk places that is as long as its rows
+abbrev pub LongRows : Chunk → Type 0
+LongRows c = (is c (codes "stco") ≡ true → 8 + 4 * count c ≤ length c.body) × (is c (codes "co64") ≡ true → 8 + 8 * count c ≤ length c.body)
+
+pub long_rows : (c : Chunk) → is_short_table c ≡ false → LongRows c
+long_rows c h = (λ e. rw e at (ltb-false _ _ h), λ e. wide e)
+  where
+    wide : is c (codes "co64") ≡ true → 8 + 8 * count c ≤ length c.body
+    wide e = let no : is c (codes "stco") ≡ false = rw (same_true c.id (codes "co64") e) refl in rw (no, e) at (ltb-false _ _ h)
+
+pub all_long : (ts : List Chunk) → AllByRecursion (λ c. is_short_table c ≡ false) ts → AllByRecursion LongRows ts
+all_long [] h = tt
+all_long (c ∷ ts) h = (long_rows c h.0, all_long ts h.1)
+
 -- a table of 32-bit places, of 64-bit places, or another
 data Kind (c : Chunk) : Type 0 where
   is_stco : c.id ≡ codes "stco" → Kind c
@@ -124,6 +141,8 @@ module _ (f : ℕ → ℕ) where
       go (is_other e i) = rw (body_other c e i) refl
 
   keeps : (p : Place) (c : Chunk) → length (moved_leaf f p c) ≡ length c.body
+  keeps file c = refl
+  keeps user_data c = refl
   keeps moov c = refl
   keeps trak c = refl
   keeps mdia c = refl
@@ -132,6 +151,8 @@ module _ (f : ℕ → ℕ) where
   keeps stbl c = body_len c
 
   unseen : (p : Place) (c : Chunk) → look p (record c { body = moved_leaf f p c }) ≡ look p c
+  unseen file c = refl
+  unseen user_data c = refl
   unseen moov c = refl
   unseen trak c = refl
   unseen mdia c = refl
@@ -151,6 +172,8 @@ module _ (f : ℕ → ℕ) where
   mend_id (suc d) p c = at_id (mend format (moved_leaf f) d) p c (opens p c.id (take 4 c.body))
 
   opens_by_id : (p : Place) (a b x y : List ℕ) → a ≡ b → opens p a x ≡ opens p b y
+  opens_by_id file a b x y e = refl
+  opens_by_id user_data a b x y e = refl
   opens_by_id moov a b x y e = rw e refl
   opens_by_id trak a b x y e = rw e refl
   opens_by_id mdia a b x y e = rw e refl
@@ -166,6 +189,8 @@ module _ (f : ℕ → ℕ) where
   relocated_id c = mend_id 5 moov c
 
   at_pad : (g : Place → Chunk → Chunk) (p : Place) (c : Chunk) (o : Option Place) → mend_at format (moved_leaf f) g p (record c { pad = [] }) o ≡ record (mend_at format (moved_leaf f) g p c o) { pad = [] }
+  at_pad g file c None = refl
+  at_pad g user_data c None = refl
   at_pad g moov c None = refl
   at_pad g trak c None = refl
   at_pad g mdia c None = refl
@@ -198,6 +223,8 @@ module _ (f : ℕ → ℕ) where
   map-tables (c ∷ a) b = ap (λ (x : List Chunk). moved_table c ∷ x) (map-tables a b)
 
   one_table : (p : Place) (c : Chunk) → in_stbl p (record c { body = moved_leaf f p c }) ≡ map moved_table (in_stbl p c)
+  one_table file c = refl
+  one_table user_data c = refl
   one_table moov c = refl
   one_table trak c = refl
   one_table mdia c = refl
@@ -268,6 +295,8 @@ module _ (f : ℕ → ℕ) where
   leaf_references ls = flat_map (λ (l : Leaf Place). in_dinf l.place l.chunk) ls
 
   one_reference : (p : Place) (c : Chunk) → in_dinf p (record c { body = moved_leaf f p c }) ≡ in_dinf p c
+  one_reference file c = refl
+  one_reference user_data c = refl
   one_reference moov c = refl
   one_reference trak c = refl
   one_reference mdia c = refl
@@ -290,31 +319,42 @@ module _ (f : ℕ → ℕ) where
       go (is_co64 e) = ap (λ (b : List ℕ). count (record c { body = b })) (body_eight c e) ∙ count_same be64 (2 ^ 64) be64_spells f c
       go (is_other e i) = ap (λ (b : List ℕ). count (record c { body = b })) (body_other c e i)
 
-  pub long_moved : (c : Chunk) → LongRows c → LongRows (moved_table c)
-  long_moved c h = (λ e. rw (moved_count c, body_len c) (h.0 e), λ e. rw (moved_count c, body_len c) (h.1 e))
+  moved_other : (c : Chunk) → is c (codes "stco") ≡ false → is c (codes "co64") ≡ false → moved_table c ≡ c
+  moved_other c e i = ap (λ (b : List ℕ). record c { body = b }) (body_other c e i)
 
-  other_moved : (c : Chunk) → LongOther c → LongOther (moved_table c)
-  other_moved c h = go (kind c)
+  need_four : (c : Chunk) → c.id ≡ codes "stco" → need c ≡ 8 + 4 * count c
+  need_four c e = rw e refl
+
+  need_eight : (c : Chunk) → c.id ≡ codes "co64" → need c ≡ 8 + 8 * count c
+  need_eight c e = rw e refl
+
+  need_moved : (c : Chunk) → need (moved_table c) ≡ need c
+  need_moved c = go (kind c)
     where
-      same : moved_body f c ≡ c.body → LongOther (moved_table c)
-      same e = subst (λ (b : List ℕ). LongOther (record c { body = b })) (sym e) h
+      go : Kind c → need (moved_table c) ≡ need c
+      go (is_stco e) = need_four (moved_table c) e ∙ ap (λ (k : ℕ). 8 + 4 * k) (moved_count c) ∙ sym (need_four c e)
+      go (is_co64 e) = need_eight (moved_table c) e ∙ ap (λ (k : ℕ). 8 + 8 * k) (moved_count c) ∙ sym (need_eight c e)
+      go (is_other e i) = ap need (moved_other c e i)
 
-      go : Kind c → LongOther (moved_table c)
-      go (is_stco e) = let no : is c (codes "stsc") ≡ false = rw e refl in let none : is c (codes "stsz") ≡ false = rw e refl in (λ i. absurd cc, λ i. absurd cc)
-      go (is_co64 e) = let no : is c (codes "stsc") ≡ false = rw e refl in let none : is c (codes "stsz") ≡ false = rw e refl in (λ i. absurd cc, λ i. absurd cc)
-      go (is_other e i) = same (body_other c e i)
+  short_moved : (c : Chunk) → is_short_table (moved_table c) ≡ is_short_table c
+  short_moved c = rw (need_moved c, body_len c) refl
 
-  pub long_all : (ts : List Chunk) → AllByRecursion LongRows ts → AllByRecursion LongRows (map moved_table ts)
-  long_all [] h = tt
-  long_all (c ∷ ts) h = (long_moved c h.0, long_all ts h.1)
+  pub short_all : (ts : List Chunk) → AllByRecursion (λ c. is_short_table c ≡ false) ts → AllByRecursion (λ c. is_short_table c ≡ false) (map moved_table ts)
+  short_all [] h = tt
+  short_all (c ∷ ts) h = (short_moved c ∙ h.0, short_all ts h.1)
 
-  pub others_all : (ts : List Chunk) → AllByRecursion LongOther ts → AllByRecursion LongOther (map moved_table ts)
+  pub others_all : (ts : List Chunk) → AllByRecursion (λ c. is_other_offsets c ≡ false) ts → AllByRecursion (λ c. is_other_offsets c ≡ false) (map moved_table ts)
   others_all [] h = tt
-  others_all (c ∷ ts) h = (other_moved c h.0, others_all ts h.1)
+  others_all (c ∷ ts) h = (h.0, others_all ts h.1)
 
   pub ids_moved : (ts : List Chunk) → map (λ (c : Chunk). c.id) (map moved_table ts) ≡ map (λ (c : Chunk). c.id) ts
   ids_moved [] = refl
   ids_moved (c ∷ ts) = ap (λ (x : List (List ℕ)). c.id ∷ x) (ids_moved ts)
+
+  -- the names of a relocated track are its names
+  pub relocated_names : (c : Chunk) → Whole format 5 moov c → IsBytes c.body → names (relocated f c) ≡ names c
+  relocated_names c w b =
+      mend_nested format atoms_give_back atom_moves (moved_leaf f) keeps names_of (λ p a d e. ap (λ (x : List ℕ). listed (once p x)) e) opens_again 5 moov c w b
 
   -- ---- where no place changes
 
@@ -328,6 +368,8 @@ module _ (f : ℕ → ℕ) where
         go (is_other e i) = body_other c e i
 
     leaf_none : (p : Place) (c : Chunk) → IsBytes c.body → moved_leaf f p c ≡ c.body
+    leaf_none file c bytes = refl
+    leaf_none user_data c bytes = refl
     leaf_none moov c bytes = refl
     leaf_none trak c bytes = refl
     leaf_none mdia c bytes = refl

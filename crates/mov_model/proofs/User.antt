@@ -1,19 +1,19 @@
 -- User items and user data are read as they are made.
-use Rattle.std.proofs.Common.{◌≡◌, ℕ, zero, suc, ◌+◌, ◌^◌, ◌<◌, Bool, true, false, cond, ltb, List, [], ◌∷◌, ◌++◌, length, map, take, drop, Option, Some, None, refl, sym, ap, ◌∙◌, arith, inl}
-use Rattle.std.specs.List.{AllByRecursion}
-use Rattle.std.specs.Int.{w16, to_be_bytes}
+use Rattle.std.proofs.Common.{Bool, List, None, Option, Some, [], ap, arith, cond, drop, false, inl, length, ltb, map, refl, suc, sym, take, true, zero, ℕ, ◌++◌, ◌+◌, ◌<◌, ◌^◌, ◌∙◌, ◌∷◌, ◌≡◌}
 use Rattle.std.proofs.lemmas.Bool.{le-ltb}
+use Rattle.std.proofs.lemmas.List.{append-nil, drop_at, length-append, take_at}
 use Rattle.std.proofs.lemmas.Nat.{from_be_bytes-to_be_bytes_2}
-use Rattle.std.proofs.lemmas.List.{length-append, take_at, drop_at, append-nil}
-use Rattle.container_model.specs.Chunk.{Chunk, Run, too_short, ends, spell_all, chunks}
-use Rattle.container_model.specs.Sizes.{Level, user, atom_front}
-use Rattle.container_model.specs.Items.{Item, put_all, values, item_token, IsMade, AreMade, edit_carrier, OpensAs, Rereads}
-use Rattle.container_model.proofs.Codec.{IsBytes, chunks_spelled, chunks_read, chunks_joined}
-use Rattle.container_model.proofs.Atoms.{short_head, atoms_give_back}
-use Rattle.container_model.proofs.Read.{Atom, atoms_read, atoms_again}
+use Rattle.std.specs.Int.{to_be_bytes, w16}
+use Rattle.std.specs.List.{AllByRecursion}
+use Rattle.container_model.proofs.Atoms.{atoms_give_back, short_head}
+use Rattle.container_model.proofs.Codec.{IsBytes, chunks_joined, chunks_read, chunks_spelled}
 use Rattle.container_model.proofs.Items.{all_after}
+use Rattle.container_model.proofs.Read.{Atom, atoms_again, atoms_read}
+use Rattle.container_model.specs.Chunk.{Chunk, Run, chunks, ends, spell_all, too_short}
+use Rattle.container_model.specs.Items.{AreMade, IsMade, Item, OpensAs, Rereads, edit_carrier, item_token, put_all, values}
+use Rattle.container_model.specs.Sizes.{Level, atom_front, user}
 use Rattle.mov_model.specs.Atoms.{atom}
-use Rattle.mov_model.specs.User.{Text, text_size, with_text, text_then, texts_in, found, texts, text_bytes, is_user_type, IsUserValue, user_items, udta}
+use Rattle.mov_model.specs.User.{IsUserValue, Text, found, is_user_type, text_bytes, text_size, text_then, texts, texts_in, udta, user_items, with_text}
 
 -- one text is read as it is written
 text_read : (t : Text) → length t.language ≡ 2 → length t.text < 2 ^ 16 → texts (text_bytes t) ≡ t ∷ []

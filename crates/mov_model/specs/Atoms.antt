@@ -1,13 +1,15 @@
 -- The atoms that are opened, and padding.
-use Rattle.std.specs.Prelude.{ℕ, List, [], Bool, true, false, ◌||◌, codes, Option, Some, None}
+use Rattle.std.specs.Prelude.{Bool, List, None, Option, Some, [], codes, false, true, ℕ, ◌||◌, ◌∷◌}
 use Rattle.std.specs.Str.{bytes_eq}
-use Rattle.container_model.specs.Chunk.{short, Chunk, Run, chunks}
-use Rattle.container_model.specs.Sizes.{Level, inside, atom_front}
-use Rattle.container_model.specs.Units.{Cell, kept, gap}
+use Rattle.container_model.specs.Chunk.{Chunk, Run, chunks, short}
 use Rattle.container_model.specs.Deep.{Format}
+use Rattle.container_model.specs.Sizes.{Level, atom_front, inside}
+use Rattle.container_model.specs.Units.{Cell, gap, kept}
 
 -- what a chunk stands in
 pub data Place : Type 0 where
+  file : Place
+  user_data : Place
   moov : Place
   trak : Place
   mdia : Place
@@ -33,6 +35,8 @@ opens trak id word = when (bytes_eq id (codes "mdia")) mdia
 opens mdia id word = when (bytes_eq id (codes "minf")) minf
 opens minf id word = either (bytes_eq id (codes "stbl")) stbl (when (bytes_eq id (codes "dinf")) dinf)
 opens stbl id word = None
+opens file id word = None
+opens user_data id word = None
 opens dinf id word = None
 
 abbrev pub format : Format Place Level
@@ -47,6 +51,11 @@ cell_by c false = kept c
 
 abbrev pub cell_of : Chunk → Cell
 cell_of c = cell_by c (is_padding c.id)
+
+-- whether a type is in a list of types
+abbrev pub is_listed : List ℕ → List (List ℕ) → Bool
+is_listed x [] = false
+is_listed x (y ∷ ys) = bytes_eq y x || is_listed x ys
 
 -- a new atom has the short form
 abbrev pub atom : List ℕ → List ℕ → Chunk

@@ -1,15 +1,16 @@
 -- What is too large: the first of these sizes that passes its limit.
-use Rattle.std.specs.Prelude.{ℕ, ◌^◌, nat_lt, List, [], ◌∷◌, ◌++◌, length, map, Bool, Option, Some, None, codes, if◌then◌else◌}
+use Rattle.std.specs.Prelude.{Bool, List, None, Option, Some, [], codes, if◌then◌else◌, length, map, nat_lt, ℕ, ◌++◌, ◌^◌, ◌∷◌}
 use Rattle.std.specs.List.{flat_map}
 use Rattle.container_model.specs.Chunk.{Chunk, spell}
-use Rattle.container_model.specs.Splice.{shift}
-use Rattle.container_model.specs.Items.{Item, put_all, edit_carrier}
-use Rattle.mov_model.specs.Atoms.{is}
-use Rattle.mov_model.specs.User.{Text, user_items, udta}
+use Rattle.container_model.specs.Items.{Item, edit_carrier, put_all}
 use Rattle.container_model.specs.Rows.{be32, be64}
+use Rattle.container_model.specs.Splice.{shift}
+use Rattle.mov_model.specs.Atoms.{is}
+use Rattle.mov_model.specs.Movie.{Movie, edit_cuts, fresh, has_carrier, new_movie, spell_movie}
+use Rattle.mov_model.specs.Parts.{first_user, parts, tracks}
+use Rattle.mov_model.specs.Reading.{count_parts}
 use Rattle.mov_model.specs.Tables.{rows, tables}
-use Rattle.mov_model.specs.Movie.{Movie, has_carrier, fresh, edit_cuts, new_movie, spell_movie}
-use Rattle.mov_model.specs.Edited.{parts, first_user, tracks, count_parts}
+use Rattle.mov_model.specs.User.{Text, udta, user_items}
 
 pub record Size : Type 0 where
   pub size : ℕ

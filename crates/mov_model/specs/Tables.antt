@@ -1,11 +1,11 @@
 -- The tables of a track: where its chunks stand, how many samples each has, and how long they are.
-use Rattle.std.specs.Prelude.{◌≡◌, ◌%◌, ◌≤◌, ◌<◌, ◌^◌, ◌+◌, ◌*◌, ℕ, zero, suc, nat_le, nat_lt, ◌==◌, List, [], ◌∷◌, ◌++◌, length, take, drop, replicate, Bool, true, false, ◌&&◌, codes, if◌then◌else◌}
-use Rattle.std.specs.List.{flat_map, AllByRecursion}
-use Rattle.std.specs.Int.{w32, from_be_bytes}
+use Rattle.std.specs.Prelude.{Bool, List, [], codes, drop, false, if◌then◌else◌, length, nat_le, nat_lt, not, replicate, suc, take, true, zero, ℕ, ◌%◌, ◌&&◌, ◌*◌, ◌++◌, ◌+◌, ◌<◌, ◌==◌, ◌^◌, ◌∷◌, ◌≡◌}
+use Rattle.std.specs.Int.{from_be_bytes, w32}
+use Rattle.std.specs.List.{AllByRecursion, flat_map}
 use Rattle.container_model.specs.Chunk.{Chunk}
 use Rattle.container_model.specs.Deep.{Leaf, leaves, mend}
-use Rattle.container_model.specs.Rows.{Width, be32, be64, numbers, changed}
-use Rattle.mov_model.specs.Atoms.{Place, moov, trak, mdia, minf, stbl, dinf, is, format}
+use Rattle.container_model.specs.Rows.{Width, be32, be64, changed, numbers}
+use Rattle.mov_model.specs.Atoms.{Place, dinf, file, format, is, mdia, minf, moov, stbl, trak, user_data}
 
 -- version and flags, the count of rows, and the rows
 abbrev pub count : Chunk → ℕ
@@ -21,15 +21,24 @@ with_rows w f c = take 8 c.body ++ changed w f (count c) (drop 8 c.body)
 abbrev pub places_in : Chunk → List ℕ
 places_in c = if is c (codes "stco") then rows be32 c else (if is c (codes "co64") then rows be64 c else [])
 
--- a table that is as long as its rows
-abbrev pub LongRows : Chunk → Type 0
-LongRows c = (is c (codes "stco") ≡ true → 8 + 4 * count c ≤ length c.body) × (is c (codes "co64") ≡ true → 8 + 8 * count c ≤ length c.body)
+-- The bytes that a table needs for its rows; a table of sample sizes has rows where it has no common size.
+abbrev pub size_rows : ℕ → ℕ → ℕ
+size_rows zero n = 4 * n
+size_rows (suc common) n = 0
 
--- the other tables that are as long as their rows
-abbrev pub LongOther : Chunk → Type 0
-LongOther c =
-    (is c (codes "stsc") ≡ true → 8 + 12 * count c ≤ length c.body)
-    × (is c (codes "stsz") ≡ true → (12 ≤ length c.body) × (count c ≡ 0 → 12 + 4 * from_be_bytes w32 (take 4 (drop 8 c.body)) ≤ length c.body))
+abbrev pub need : Chunk → ℕ
+need c =
+    if is c (codes "stco") then 8 + 4 * count c
+    else (if is c (codes "co64") then 8 + 8 * count c
+    else (if is c (codes "stsc") then 8 + 12 * count c
+    else (if is c (codes "stsz") then 12 + size_rows (count c) (from_be_bytes w32 (take 4 (drop 8 c.body))) else 0)))
+
+abbrev pub is_short_table : Chunk → Bool
+is_short_table c = nat_lt (length c.body) (need c)
+
+-- a table with other offsets, which isn't read
+abbrev pub is_other_offsets : Chunk → Bool
+is_other_offsets c = is c (codes "saio")
 
 -- the changed places pass no row's width
 abbrev pub FitsRows : (ℕ → ℕ) → Chunk → Type 0
@@ -40,6 +49,8 @@ abbrev pub moved_body : (ℕ → ℕ) → Chunk → List ℕ
 moved_body f c = if is c (codes "stco") then with_rows be32 f c else (if is c (codes "co64") then with_rows be64 f c else c.body)
 
 abbrev pub moved_leaf : (ℕ → ℕ) → Place → Chunk → List ℕ
+moved_leaf f file c = c.body
+moved_leaf f user_data c = c.body
 moved_leaf f moov c = c.body
 moved_leaf f trak c = c.body
 moved_leaf f mdia c = c.body
@@ -54,6 +65,8 @@ relocated f c = mend format (moved_leaf f) 5 moov c
 -- ---- what the tables say
 
 abbrev pub in_stbl : Place → Chunk → List Chunk
+in_stbl file c = []
+in_stbl user_data c = []
 in_stbl moov c = []
 in_stbl trak c = []
 in_stbl mdia c = []
@@ -66,6 +79,8 @@ abbrev pub tables : Chunk → List Chunk
 tables t = flat_map (λ (l : Leaf Place). in_stbl l.place l.chunk) (leaves format 5 moov t)
 
 abbrev pub in_dinf : Place → Chunk → List Chunk
+in_dinf file c = []
+in_dinf user_data c = []
 in_dinf moov c = []
 in_dinf trak c = []
 in_dinf mdia c = []
@@ -77,14 +92,28 @@ in_dinf stbl c = []
 abbrev pub references : Chunk → List Chunk
 references t = flat_map (λ (l : Leaf Place). in_dinf l.place l.chunk) (leaves format 5 moov t)
 
--- each entry lies in the table and has flag 1: the data is in this file
+-- an entry's size, with these four bytes, its type, and its version and flags
+abbrev pub entry_size : List ℕ → ℕ
+entry_size b = from_be_bytes w32 (take 4 b)
+
+abbrev pub entry_flags : List ℕ → ℕ
+entry_flags b = from_be_bytes w32 (take 4 (drop 8 b))
+
+-- each entry has its version and flags, and lies in the table
+abbrev pub entries_whole : ℕ → List ℕ → Bool
+entries_whole zero b = true
+entries_whole (suc k) b = nat_le 12 (entry_size b) && (nat_le (entry_size b) (length b) && entries_whole k (drop (entry_size b) b))
+
+-- each entry has flag 1: the data is in this file
 abbrev pub entries_local : ℕ → List ℕ → Bool
 entries_local zero b = true
-entries_local (suc k) b =
-    nat_le 12 (from_be_bytes w32 (take 4 b)) && (nat_le (from_be_bytes w32 (take 4 b)) (length b) && ((from_be_bytes w32 (take 4 (drop 8 b)) % 2 == 1) && entries_local k (drop (from_be_bytes w32 (take 4 b)) b)))
+entries_local (suc k) b = (entry_flags b % 2 == 1) && entries_local k (drop (entry_size b) b)
 
-abbrev pub IsLocal : Chunk → Type 0
-IsLocal c = is c (codes "dref") ≡ true → (8 ≤ length c.body) × (entries_local (count c) (drop 8 c.body) ≡ true)
+abbrev pub is_short_reference : Chunk → Bool
+is_short_reference c = is c (codes "dref") && not (nat_le 8 (length c.body) && entries_whole (count c) (drop 8 c.body))
+
+abbrev pub is_external : Chunk → Bool
+is_external c = is c (codes "dref") && not (entries_local (count c) (drop 8 c.body))
 
 -- where the chunks of a track stand
 abbrev pub places : List Chunk → List ℕ

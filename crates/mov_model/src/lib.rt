@@ -7,7 +7,9 @@ ghost use Rattle.container_model.specs.Splice.{splice};
 ghost use Rattle.container_model.specs.Items.{Item};
 ghost use Rattle.mov_model.specs.User.{Text};
 ghost use Rattle.mov_model.specs.Movie.{new, movie_of, new_movie, laid_movie, overlaid, spell_movie, edit_cuts, with_size, all_atoms};
-ghost use Rattle.mov_model.specs.Edited.{Edited, Supported, UserItems, held};
+ghost use Rattle.mov_model.specs.Edited.{Edited, UserItems};
+ghost use Rattle.mov_model.specs.Support.{Supported};
+ghost use Rattle.mov_model.specs.Pieces.{held};
 ghost use Rattle.mov_model.specs.Large.{too_large};
 
 /// For every supported movie and every edit of its user items after which nothing is too large, the new file is the
