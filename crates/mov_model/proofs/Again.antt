@@ -146,7 +146,7 @@ abbrev pub strip : Chunk → Chunk
 strip c = record c { pad = [] }
 
 -- the first user data but for its pad
-first_solid : (cs : List Chunk) → first_user (solids is_padding cs) ≡ map strip (first_user cs)
+pub first_solid : (cs : List Chunk) → first_user (solids is_padding cs) ≡ map strip (first_user cs)
 first_solid [] = refl
 first_solid (c ∷ cs) = go (is_padding c.id) refl (first_solid cs)
   where
@@ -159,7 +159,7 @@ first_solid (c ∷ cs) = go (is_padding c.id) refl (first_solid cs)
     go true e again = rw (padding_no_udta c e) again
     go false e again = kept_one (udta.is c) again
 
-all_strip : (Q : Chunk → Type 0) → ((c : Chunk) → Q (strip c) → Q c) → (cs : List Chunk) → AllByRecursion Q (map strip cs) → AllByRecursion Q cs
+pub all_strip : (Q : Chunk → Type 0) → ((c : Chunk) → Q (strip c) → Q c) → (cs : List Chunk) → AllByRecursion Q (map strip cs) → AllByRecursion Q cs
 all_strip Q f [] h = tt
 all_strip Q f (c ∷ cs) h = (f c h.0, all_strip Q f cs h.1)
 

@@ -10,6 +10,7 @@ ghost use Rattle.mov_model.specs.Movie.{new, movie_of, new_movie, laid_movie, ov
 ghost use Rattle.mov_model.specs.Edited.{Edited, UserItems};
 ghost use Rattle.mov_model.specs.Support.{Supported};
 ghost use Rattle.mov_model.specs.Pieces.{held};
+ghost use Rattle.mov_model.specs.Why.{why};
 ghost use Rattle.mov_model.specs.Large.{too_large};
 
 /// For every supported movie and every edit of its user items after which nothing is too large, the new file is the
@@ -34,4 +35,9 @@ pub fn new_is_overlaid()
 /// What an `mdat` holds at a place are the file's bytes there.
 pub fn held_are_bytes()
     ensures { (o : List ℕ) (p : ℕ) (x : ℕ × List ℕ) → IsBytes o → Supported o → held 0 p (all_atoms (movie_of o)) ≡ Some x → take (length x.1) (drop p o) ≡ x.1 }
+{}
+
+/// A movie is supported exactly where no test of the reading order holds.
+pub fn refusals_are_exact()
+    ensures { (b : List ℕ) → (why b ≡ None → Supported b) × (Supported b → why b ≡ None) }
 {}
