@@ -1,2 +1,5 @@
+pub mod Fields
+pub mod Kinds
 pub mod Letters
+pub mod Moves
 pub mod Names

@@ -1,6 +1,13 @@
-// The fields of a file, the items of an edit, and the rules' sets.
+// The names of fields, the items of an edit, and the rules' sets.
+ghost use Rattle.std.specs.Prelude.{◌≡◌, ◌+◌, ◌<◌, ◌≤◌, ◌^◌, length, List, ℕ, map};
+ghost use Rattle.std.specs.List.{position_or_len};
+ghost use Rattle.std.specs.Str.{bytes_eq};
+ghost use Rattle.me_bytes.specs.Bytes.{be};
+ghost use Rattle.part_tree.specs.Names.{bext_row, field_place, is_field_name, is_user_type, same_name};
+
 use crate::bytes::Bytes;
 use crate::names::FourCc;
+use me_bytes::be32_at;
 
 /// The fields of the chunk `bext`, in its order (EBU Tech 3285).
 #[derive(Clone, Copy, Debug, PartialEq, Eq)]
@@ -22,6 +29,32 @@ pub enum BextField {
     Reserved,
     /// The rest of the chunk.
     CodingHistory,
+}
+
+impl BextField {
+    /// The number of the field in the order of `bext`, from 0.
+    pub fn row(self) -> u8
+        ensures row { result ≡ bext_row self }
+        ensures small { result ≤ 14 }
+    {
+        match self {
+            BextField::Description => 0,
+            BextField::Originator => 1,
+            BextField::OriginatorReference => 2,
+            BextField::OriginationDate => 3,
+            BextField::OriginationTime => 4,
+            BextField::TimeReference => 5,
+            BextField::Version => 6,
+            BextField::Umid => 7,
+            BextField::LoudnessValue => 8,
+            BextField::LoudnessRange => 9,
+            BextField::MaxTruePeakLevel => 10,
+            BextField::MaxMomentaryLoudness => 11,
+            BextField::MaxShortTermLoudness => 12,
+            BextField::Reserved => 13,
+            BextField::CodingHistory => 14,
+        }
+    }
 }
 
 /// What the bytes of a `bext` field are.
@@ -49,6 +82,89 @@ pub enum FieldName {
     Whole(FourCc),
     /// An item of QuickTime's user data, by its type.
     User(FourCc),
+}
+
+/// The children of a `LIST` of type `INFO` that are fields, in field order.
+pub const INFO_IDS: [FourCc; 17] = [
+    FourCc(*b"IARL"),
+    FourCc(*b"IART"),
+    FourCc(*b"ICMS"),
+    FourCc(*b"ICMT"),
+    FourCc(*b"ICOP"),
+    FourCc(*b"ICRD"),
+    FourCc(*b"IENG"),
+    FourCc(*b"IGNR"),
+    FourCc(*b"IKEY"),
+    FourCc(*b"IMED"),
+    FourCc(*b"INAM"),
+    FourCc(*b"IPRD"),
+    FourCc(*b"ISBJ"),
+    FourCc(*b"ISFT"),
+    FourCc(*b"ISRC"),
+    FourCc(*b"ISRF"),
+    FourCc(*b"ITCH"),
+];
+
+/// The chunks that are a field as a whole, in field order.
+pub const WHOLE_IDS: [FourCc; 4] = [
+    FourCc(*b"axml"),
+    FourCc(*b"iXML"),
+    FourCc(*b"_PMX"),
+    FourCc(*b"MD5 "),
+];
+
+// The number of an identifier among others, or how many these are.
+fn position_of(id: &FourCc, ids: &[FourCc]) -> usize
+    ensures place { result ≡ position_or_len (λ i. bytes_eq id.now.0 i.0) ids.now }
+    ensures small { result ≤ length ids.now }
+{
+    let mut k = 0;
+    for other in ids {
+        if id.is(&other.0) {
+            return k;
+        }
+        k += 1;
+    }
+    k
+}
+
+impl FieldName {
+    /// Where the name stands in field order.
+    pub fn place(&self) -> u64
+        ensures { result ≡ field_place self.now }
+    {
+        match self {
+            FieldName::Bext(field) => u64::from(field.row()),
+            FieldName::Info(id) => 15 + position_of(id, &INFO_IDS) as u64,
+            FieldName::Whole(id) => 32 + position_of(id, &WHOLE_IDS) as u64,
+            FieldName::User(id) => 36 + user_place(id),
+        }
+    }
+
+    /// Whether the names are the same.
+    pub fn is(&self, other: &FieldName) -> bool
+        ensures { result ≡ same_name self.now other.now }
+    {
+        match (self, other) {
+            (FieldName::Bext(a), FieldName::Bext(b)) => a.row() == b.row(),
+            (FieldName::Info(a), FieldName::Info(b)) => a.is(&b.0),
+            (FieldName::Whole(a), FieldName::Whole(b)) => a.is(&b.0),
+            (FieldName::User(a), FieldName::User(b)) => a.is(&b.0),
+            _ => false,
+        }
+    }
+
+    /// Whether it is the name of a field.
+    pub fn is_field(&self) -> bool
+        ensures { result ≡ is_field_name self.now }
+    {
+        match self {
+            FieldName::Bext(_) => true,
+            FieldName::Info(id) => position_of(id, &INFO_IDS) < INFO_IDS.len(),
+            FieldName::Whole(id) => position_of(id, &WHOLE_IDS) < WHOLE_IDS.len(),
+            FieldName::User(id) => is_user(id),
+        }
+    }
 }
 
 /// A value of a field: its raw bytes, and their language in QuickTime's user data (0 elsewhere).
@@ -87,4 +203,25 @@ pub enum RuleSet {
 pub struct Broken {
     pub rule: u8,
     pub field: FieldName,
+}
+
+// The four bytes of a type as a number, the highest first.
+fn user_place(id: &FourCc) -> u64
+    ensures place { result ≡ be id.now.0 }
+    ensures small { result < 2 ^ 32 }
+{
+    match be32_at(&id.0, 0) {
+        Some(n) => u64::from(n),
+        None => 0,
+    }
+}
+
+/// Whether the type is that of a user text: A9 and three ASCII letters or digits.
+pub fn is_user(id: &FourCc) -> bool
+    ensures { result ≡ is_user_type id.now.0 }
+{
+    id.0[0] == 0xa9
+        && id.0[1].is_ascii_alphanumeric()
+        && id.0[2].is_ascii_alphanumeric()
+        && id.0[3].is_ascii_alphanumeric()
 }

@@ -4,14 +4,23 @@
 
 mod bytes;
 mod field;
+mod fields;
+mod kind;
+mod moves;
 mod names;
 mod part;
 mod plan;
 mod why;
 
 pub use bytes::Bytes;
-pub use field::{BextField, Broken, Change, EditItem, FieldName, Form, RuleSet, Value};
+pub use field::{
+    BextField, Broken, Change, EditItem, FieldName, Form, INFO_IDS, RuleSet, Value, WHOLE_IDS,
+    is_user,
+};
+pub use fields::{Entry, Fields, Values};
+pub use kind::kind_of;
 pub use me_bytes::NoMemory;
+pub use moves::Moves;
 pub use names::{FourCc, Kind, Span};
 pub use part::{Part, Role};
 pub use plan::{Patch, Patches, Plan, Segment, Segments};

@@ -1,0 +1,4 @@
+pub mod Entries
+pub mod Moved
+pub mod Places
+pub mod Words
