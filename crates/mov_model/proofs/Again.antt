@@ -4,6 +4,7 @@ use Rattle.std.specs.Prelude.{codes, ◌&&◌, ◌||◌}
 use Rattle.std.proofs.lemmas.Bool.{and_parts, cond-true, ltb-true}
 use Rattle.std.proofs.lemmas.List.{length-append, length-drop, nil_from_length}
 use Rattle.std.specs.List.{AllByRecursion, flat_map}
+use Rattle.part_tree.specs.declared.field.Value.{Value}
 use Rattle.container_model.proofs.Atoms.{atoms_give_back}
 use Rattle.container_model.proofs.Codec.{IsBytes, as_many, chunks_joined, chunks_read, chunks_spelled}
 use Rattle.container_model.proofs.Deep.{Alike, bytes_of}
@@ -22,12 +23,12 @@ use Rattle.mov_model.proofs.Parts.{udta_no_trak}
 use Rattle.mov_model.proofs.Tables.{relocated_alike, relocated_other}
 use Rattle.mov_model.proofs.User.{atom_made}
 use Rattle.mov_model.specs.Atoms.{atom, atoms_in, cell_by, cell_of, format, is, is_padding, moov}
-use Rattle.mov_model.specs.Edited.{Fits}
+use Rattle.mov_model.proofs.Fits.{Fits}
 use Rattle.mov_model.specs.Movie.{Movie, all_atoms, carried, carry_by, edit_cuts, ends_file, fill, first_cell, fresh, hanging, has_carrier, is_open, movie_of, new_kids, new_movie, padding, padding_behind, past_gaps, pieces_of, rest_behind, spell_movie, split, split_by, top_run, whole_pieces}
 use Rattle.mov_model.specs.Parts.{first_user, has_id}
 use Rattle.mov_model.specs.Support.{Supported}
 use Rattle.mov_model.specs.Tables.{relocated}
-use Rattle.mov_model.specs.User.{Text, udta, user_items}
+use Rattle.mov_model.specs.User.{udta, user_items}
 
 -- ---- moov among the atoms of the file
 
@@ -200,7 +201,7 @@ module _ (f : ℕ → ℕ) where
       let u = udta.fresh (c ∷ cs) in
       (record { read = atom_made inside (codes "udta") u.body refl (omega (arith, h.0)); alike = same_alike f u (relocated_other f u refl) }, tt)
 
-  carried_fine : (e : List (Item Text)) (cs : List Chunk) → AllByRecursion (Kid f) cs → AllByRecursion (λ c. Kid f (edit_carrier udta user_items e c)) (first_user cs)
+  carried_fine : (e : List (Item Value)) (cs : List Chunk) → AllByRecursion (Kid f) cs → AllByRecursion (λ c. Kid f (edit_carrier udta user_items e c)) (first_user cs)
       → (has_carrier udta (flat_map live (map cell_of cs)) ≡ false → AllByRecursion (Kid f) (fresh udta (put_all user_items e []))) → AllCells (Kid f) (carried udta user_items e (map cell_of cs))
   carried_fine [] cs h w n = all_read (Kid f) cs h
   carried_fine (i ∷ e) cs h w n = go (has_carrier udta (flat_map live (map cell_of cs))) refl
@@ -263,7 +264,7 @@ module _ (o : List ℕ) (bytes : IsBytes o) (sup : Supported o) where
 
   -- ---- the edit
 
-  module _ (e : List (Item Text)) (fits : Fits mov e) where
+  module _ (e : List (Item Value)) (fits : Fits mov e) where
     abbrev pub move : ℕ → ℕ
     move = shift (edit_cuts mov e)
 

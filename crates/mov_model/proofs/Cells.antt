@@ -4,6 +4,7 @@ use Rattle.std.specs.Prelude.{codes}
 use Rattle.std.proofs.lemmas.List.{append-nil}
 use Rattle.std.proofs.lemmas.List.Concat.{flat_map-append}
 use Rattle.std.specs.List.{AllByRecursion, flat_map}
+use Rattle.part_tree.specs.declared.field.Value.{Value}
 use Rattle.container_model.proofs.Items.{same_true}
 use Rattle.container_model.proofs.Units.{AllCells, GapsArePadding}
 use Rattle.container_model.specs.Chunk.{Chunk}
@@ -11,7 +12,7 @@ use Rattle.container_model.specs.Items.{Item, edit_carrier, put_all}
 use Rattle.container_model.specs.Units.{Cell, edited, gap, kept, live, solid, solids, was}
 use Rattle.mov_model.specs.Atoms.{cell_by, cell_of, is_padding}
 use Rattle.mov_model.specs.Movie.{add_last, add_new, carried, carry_by, edit_by, edited_chunks, first_carrier, first_cell, fresh, has_carrier, only_gaps}
-use Rattle.mov_model.specs.User.{Text, udta, user_items}
+use Rattle.mov_model.specs.User.{udta, user_items}
 
 -- ---- cells as they are read
 
@@ -169,10 +170,10 @@ has_solid (c ∷ cs) = go (is_padding c.id) refl (has_solid cs)
 
 -- ---- the edit
 
-edit_id : (e : List (Item Text)) (c : Chunk) → (edit_carrier udta user_items e c).id ≡ c.id
+edit_id : (e : List (Item Value)) (c : Chunk) → (edit_carrier udta user_items e c).id ≡ c.id
 edit_id e c = refl
 
-edit_pad : (e : List (Item Text)) (c : Chunk) → edit_carrier udta user_items e (record c { pad = [] }) ≡ record (edit_carrier udta user_items e c) { pad = [] }
+edit_pad : (e : List (Item Value)) (c : Chunk) → edit_carrier udta user_items e (record c { pad = [] }) ≡ record (edit_carrier udta user_items e c) { pad = [] }
 edit_pad e c = refl
 
 was_new : (new : List Chunk) (xs : List Cell) → flat_map was (add_new new xs) ≡ flat_map was xs
@@ -191,7 +192,7 @@ live_new : (new : List Chunk) (xs : List Cell) → flat_map live (add_new new xs
 live_new [] xs = sym (append-nil (flat_map live xs))
 live_new (c ∷ new) xs = live_add (c ∷ new) xs
 
-pub was_carried : (e : List (Item Text)) (xs : List Cell) → flat_map was (carried udta user_items e xs) ≡ flat_map was xs
+pub was_carried : (e : List (Item Value)) (xs : List Cell) → flat_map was (carried udta user_items e xs) ≡ flat_map was xs
 was_carried [] xs = refl
 was_carried (i ∷ e) xs = go (has_carrier udta (flat_map live xs))
   where
@@ -199,7 +200,7 @@ was_carried (i ∷ e) xs = go (has_carrier udta (flat_map live xs))
     go true = was_first (edit_carrier udta user_items (i ∷ e)) (edit_id (i ∷ e)) (edit_pad (i ∷ e)) xs
     go false = was_new (fresh udta (put_all user_items (i ∷ e) [])) xs
 
-pub gaps_carried : (e : List (Item Text)) (xs : List Cell) → GapsArePadding is_padding xs → GapsArePadding is_padding (carried udta user_items e xs)
+pub gaps_carried : (e : List (Item Value)) (xs : List Cell) → GapsArePadding is_padding xs → GapsArePadding is_padding (carried udta user_items e xs)
 gaps_carried [] xs h = h
 gaps_carried (i ∷ e) xs h = go (has_carrier udta (flat_map live xs))
   where
@@ -207,7 +208,7 @@ gaps_carried (i ∷ e) xs h = go (has_carrier udta (flat_map live xs))
     go true = gaps_first (edit_carrier udta user_items (i ∷ e)) (edit_id (i ∷ e)) (edit_pad (i ∷ e)) xs h
     go false = gaps_new (fresh udta (put_all user_items (i ∷ e) [])) xs h
 
-pub all_carried : (P : Chunk → Type 0) (e : List (Item Text)) → ((c : Chunk) → udta.is c ≡ true → P c → P (edit_carrier udta user_items e c)) → AllByRecursion P (fresh udta (put_all user_items e []))
+pub all_carried : (P : Chunk → Type 0) (e : List (Item Value)) → ((c : Chunk) → udta.is c ≡ true → P c → P (edit_carrier udta user_items e c)) → AllByRecursion P (fresh udta (put_all user_items e []))
     → (xs : List Cell) → AllCells P xs → AllCells P (carried udta user_items e xs)
 all_carried P [] step new xs h = h
 all_carried P (i ∷ e) step new xs h = go (has_carrier udta (flat_map live xs))
@@ -221,7 +222,7 @@ solid_fresh [] = refl
 solid_fresh (c ∷ cs) = refl
 
 -- What stands in moov after an edit, but for padding, is the edit of what stood there.
-pub solids_carried : (e : List (Item Text)) (cs : List Chunk) → solids is_padding (flat_map live (carried udta user_items e (map cell_of cs))) ≡ edited_chunks udta user_items e (solids is_padding cs)
+pub solids_carried : (e : List (Item Value)) (cs : List Chunk) → solids is_padding (flat_map live (carried udta user_items e (map cell_of cs))) ≡ edited_chunks udta user_items e (solids is_padding cs)
 solids_carried [] cs = solids_live (λ c. c) (λ c. refl) (λ c. refl) cs
 solids_carried (i ∷ e) cs = rw (← has_solid cs) (go (has_carrier udta (flat_map live (map cell_of cs))))
   where

@@ -6,6 +6,7 @@ use Rattle.std.proofs.lemmas.List.{length-append}
 use Rattle.std.proofs.lemmas.List.Concat.{flat_map-append}
 use Rattle.std.specs.Int.{to_be_bytes, to_le_bytes, w32, w64}
 use Rattle.std.specs.List.{AllByRecursion, flat_map}
+use Rattle.part_tree.specs.declared.field.Value.{Value}
 use Rattle.container_model.proofs.Codec.{IsBytes}
 use Rattle.container_model.proofs.Deep.{all_len}
 use Rattle.container_model.proofs.Items.{same_true, values_after}
@@ -22,14 +23,14 @@ use Rattle.mov_model.proofs.Laid.{grown_brings, grown_new, grown_old, last_units
 use Rattle.mov_model.proofs.Parts.{KidWhole, UserWhole, edited_relocated, first_user_relocated, items_all, nodes_all, nodes_relocated, tracks_all, tracks_relocated}
 use Rattle.mov_model.proofs.Tables.{all_long, moved_table, places_moved, relocated_id, relocated_pad, relocated_tables, samples_moved}
 use Rattle.mov_model.specs.Atoms.{atom, atoms_in, cell_of, format, is, is_padding, moov}
-use Rattle.mov_model.specs.Edited.{Fits, UserItems}
+use Rattle.mov_model.proofs.Fits.{Fits, UserItems}
 use Rattle.mov_model.specs.Kept.{kept_in, nodes, placed}
 use Rattle.mov_model.specs.Movie.{Movie, all_atoms, carried, edit_cuts, edited_chunks, ends_file, ends_open, fill, gaps_of, grown, hanging, is_open, kids_at, new_kids, padding, padding_behind, past_gaps, pieces_of, rest_behind, slot_behind, whole_pieces}
 use Rattle.mov_model.specs.Parts.{first_items, first_user, parts, track_of, tracks}
 use Rattle.mov_model.specs.Pieces.{held, is_mdat, pieces_by, pieces_in, tail_of, track_pieces}
 use Rattle.mov_model.specs.Support.{IsHeld, Supported, TrackFine}
 use Rattle.mov_model.specs.Tables.{FitsRows, places, relocated, tables}
-use Rattle.mov_model.specs.User.{Text, udta, user_items}
+use Rattle.mov_model.specs.User.{udta, user_items}
 
 -- ---- padding is not looked at
 
@@ -58,7 +59,7 @@ past_nothing (c ∷ cs) = go (is_padding c.id) refl (past_nothing cs)
     go true e again = again
     go false e again = rw e refl
 
-pub behind_solids : (m : Movie) (e : List (Item Text)) → solids is_padding (padding_behind m e ++ rest_behind m e) ≡ solids is_padding m.behind
+pub behind_solids : (m : Movie) (e : List (Item Value)) → solids is_padding (padding_behind m e ++ rest_behind m e) ≡ solids is_padding m.behind
 behind_solids m e = flat_map-append (solid is_padding) (padding_behind m e) (rest_behind m e) ∙ rw (one (is_open m e), two (is_open m e)) refl
   where
     one : (t : Bool) → solids is_padding (cond t (hanging (fill (ends_file m e)) (whole_pieces m e)) []) ≡ []
@@ -138,7 +139,7 @@ gaps_no_mdat (c ∷ cs) = go (is_padding c.id) refl (gaps_no_mdat cs)
     go true e again = (padding_no_mdat c e, again)
     go false e again = tt
 
-module _ (m : Movie) (e : List (Item Text)) where
+module _ (m : Movie) (e : List (Item Value)) where
   kept_bytes : old_length (pieces_of m e) ≡ length (spell_all (atoms_in m.movie).chunks)
   kept_bytes =
       let xs = map cell_of (atoms_in m.movie).chunks in
@@ -196,7 +197,7 @@ module _ (m : Movie) (e : List (Item Text)) where
 
 -- ---- the edit of a supported movie
 
-module _ (o : List ℕ) (bytes : IsBytes o) (sup : Supported o) (e : List (Item Text)) (user : UserItems e) (fits : Fits (mov o bytes sup) e) where
+module _ (o : List ℕ) (bytes : IsBytes o) (sup : Supported o) (e : List (Item Value)) (user : UserItems e) (fits : Fits (mov o bytes sup) e) where
   abbrev old : Movie
   old = mov o bytes sup
 

@@ -3,6 +3,7 @@ use Rattle.std.proofs.Common.{Bool, List, [], ap, arith, cond, false, length, ma
 use Rattle.std.specs.Prelude.{not, ◌&&◌}
 use Rattle.std.proofs.lemmas.Bool.{le-ltb}
 use Rattle.std.specs.List.{AllByRecursion}
+use Rattle.part_tree.specs.declared.field.Value.{Value}
 use Rattle.container_model.proofs.Codec.{IsBytes}
 use Rattle.container_model.proofs.Read.{Atom}
 use Rattle.container_model.specs.Chunk.{Chunk, spell, spell_all}
@@ -16,14 +17,14 @@ use Rattle.mov_model.proofs.Clauses.{new_fields, new_kept, new_pieces}
 use Rattle.mov_model.proofs.Supported.{new_supported}
 use Rattle.mov_model.proofs.Tables.{relocated_none}
 use Rattle.mov_model.specs.Atoms.{atoms_in, cell_by, cell_of, format, is_padding, moov}
-use Rattle.mov_model.specs.Edited.{Edited, Fits, UserItems}
+use Rattle.mov_model.proofs.Fits.{EditedBy, Fits, UserItems}
 use Rattle.mov_model.specs.Kept.{kept_in}
-use Rattle.mov_model.specs.Movie.{Movie, edit_cuts, ends_file, ends_open, fill, gaps_of, grown, hanging, is_open, kids_at, movie_of, new, new_kids, new_movie, padding_behind, past_gaps, pieces_of, rest_behind, spell_movie, whole_pieces}
+use Rattle.mov_model.specs.Movie.{Movie, edit_cuts, ends_file, ends_open, fill, gaps_of, grown, hanging, is_open, kids_at, movie_of, edited_file, new_kids, new_movie, padding_behind, past_gaps, pieces_of, rest_behind, spell_movie, whole_pieces}
 use Rattle.mov_model.specs.Parts.{first_items, parts}
 use Rattle.mov_model.specs.Pieces.{pieces_in}
 use Rattle.mov_model.specs.Support.{Supported}
 use Rattle.mov_model.specs.Tables.{relocated}
-use Rattle.mov_model.specs.User.{Text, user_items}
+use Rattle.mov_model.specs.User.{user_items}
 
 -- ---- without an item
 
@@ -95,13 +96,13 @@ module _ (o : List ℕ) (bytes : IsBytes o) (sup : Supported o) where
       ap (λ (x : List ℕ). record old { movie = record old.movie { body = x }; behind = padding_behind old [] ++ rest_behind old [] }) body
       ∙ ap (λ (cs : List Chunk). record old { behind = cs }) behind
 
-  pub new_nothing : new o [] ≡ o
-  unfolding new
+  pub new_nothing : edited_file o [] ≡ o
+  unfolding edited_file
   new_nothing = ap spell_movie movie_is ∙ file_bytes o bytes sup
 
 -- The law: the new file is the old one edited.
-pub edited_law : (o : List ℕ) (e : List (Item Text)) → IsBytes o → Supported o → UserItems e → Fits (movie_of o) e → Edited o e (new o e)
-unfolding new
+pub edited_law : (o : List ℕ) (e : List (Item Value)) → IsBytes o → Supported o → UserItems e → Fits (movie_of o) e → EditedBy o e (edited_file o e)
+unfolding edited_file
 edited_law o e bytes sup user fits =
     let again = movie_again o bytes sup e fits in
     record {
@@ -109,5 +110,5 @@ edited_law o e bytes sup user fits =
       reads_back = λ name. ap (λ (m : Movie). values user_items name (first_items (parts m))) again ∙ new_fields o bytes sup e user fits name;
       kept_in_order = ap kept_in again ∙ new_kept o bytes sup e user fits;
       same_pieces = ap pieces_in again ∙ new_pieces o bytes sup e user fits;
-      no_effect = λ none. ap (new o) none ∙ new_nothing o bytes sup;
+      no_effect = λ none. ap (edited_file o) none ∙ new_nothing o bytes sup;
     }

@@ -3,24 +3,24 @@ use Rattle.std.proofs.Common.{Bool, List, None, Some, [], ap, arith, cond, false
 use Rattle.std.specs.Prelude.{codes}
 use Rattle.std.proofs.lemmas.Bool.{ltb-false}
 use Rattle.std.specs.List.{AllByRecursion, flat_map}
+use Rattle.part_tree.specs.declared.field.Value.{Value}
 use Rattle.container_model.proofs.Codec.{IsBytes}
 use Rattle.container_model.proofs.Items.{same_true}
 use Rattle.container_model.specs.Chunk.{Chunk}
 use Rattle.container_model.specs.Items.{Item, edit_carrier, put_all}
 use Rattle.container_model.specs.Rows.{be32, be64}
 use Rattle.container_model.specs.Splice.{shift}
-use Rattle.mov_model.specs.Kept.{kept}
 use Rattle.mov_model.proofs.Edited.{edited_law, new_nothing}
 use Rattle.mov_model.proofs.Parts.{placed_nothing}
 use Rattle.mov_model.specs.Atoms.{is}
-use Rattle.mov_model.specs.Edited.{Edited, Fits, UserItems}
-use Rattle.mov_model.specs.Kept.{Node, nodes}
-use Rattle.mov_model.specs.Large.{Size, all_sizes, first_passing, passes, row_sizes, sized, table_sizes, too_large, user_sizes}
-use Rattle.mov_model.specs.Movie.{Movie, edit_cuts, fresh, has_carrier, movie_of, new}
+use Rattle.mov_model.proofs.Fits.{EditedBy, Fits, UserItems}
+use Rattle.mov_model.specs.Kept.{Node, kept, nodes}
+use Rattle.mov_model.specs.Large.{Size, all_sizes, first_passing, passes, row_sizes, sized, table_sizes, size_passed, user_sizes}
+use Rattle.mov_model.specs.Movie.{Movie, edit_cuts, fresh, has_carrier, movie_of, edited_file}
 use Rattle.mov_model.specs.Parts.{first_user, parts, tracks}
 use Rattle.mov_model.specs.Support.{Supported}
 use Rattle.mov_model.specs.Tables.{FitsRows, rows, tables}
-use Rattle.mov_model.specs.User.{Text, udta, user_items}
+use Rattle.mov_model.specs.User.{udta, user_items}
 
 abbrev pub Within : List Size → Type 0
 Within ss = AllByRecursion (λ (s : Size). s.size ≤ s.limit) ss
@@ -71,7 +71,7 @@ tracks_fit : (f : ℕ → ℕ) (ts : List Chunk) → AllByRecursion (λ (t : Chu
 tracks_fit f [] h = tt
 tracks_fit f (t ∷ ts) h = (rows_fit f (tables t) (within_flat (row_sizes f) (tables t) h.0), tracks_fit f ts h.1)
 
-pub fits_of : (m : Movie) (e : List (Item Text)) → first_passing (all_sizes m e) ≡ None → Fits m e
+pub fits_of : (m : Movie) (e : List (Item Value)) → first_passing (all_sizes m e) ≡ None → Fits m e
 fits_of m e none =
     let all = within (all_sizes m e) none in
     let a = within_both (user_sizes m e) _ all in
@@ -88,7 +88,7 @@ fits_of m e none =
     }
 
 -- nothing is done without an item
-edited_nothing : (o : List ℕ) → Supported o → Edited o [] o
+edited_nothing : (o : List ℕ) → Supported o → EditedBy o [] o
 edited_nothing o sup =
     record {
       supported = sup;
@@ -99,6 +99,6 @@ edited_nothing o sup =
     }
 
 -- The law, where nothing is too large.
-pub whole_law : (o : List ℕ) (e : List (Item Text)) → IsBytes o → Supported o → UserItems e → too_large (movie_of o) e ≡ None → Edited o e (new o e)
-whole_law o [] bytes sup user none = subst (Edited o []) (sym (new_nothing o bytes sup)) (edited_nothing o sup)
+pub whole_law : (o : List ℕ) (e : List (Item Value)) → IsBytes o → Supported o → UserItems e → size_passed (movie_of o) e ≡ None → EditedBy o e (edited_file o e)
+whole_law o [] bytes sup user none = subst (EditedBy o []) (sym (new_nothing o bytes sup)) (edited_nothing o sup)
 whole_law o (i ∷ e) bytes sup user none = edited_law o (i ∷ e) bytes sup user (fits_of (movie_of o) (i ∷ e) none)

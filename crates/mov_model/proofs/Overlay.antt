@@ -4,6 +4,7 @@ use Rattle.std.specs.Prelude.{codes, not, ◌&&◌, ◌||◌}
 use Rattle.std.proofs.lemmas.List.{append-nil}
 use Rattle.std.proofs.lemmas.List.Concat.{flat_map-append}
 use Rattle.std.specs.List.{AllByRecursion, flat_map}
+use Rattle.part_tree.specs.declared.field.Value.{Value}
 use Rattle.container_model.proofs.Deep.{Alike, alike_len}
 use Rattle.container_model.proofs.Units.{BringsPad, spell_all-append}
 use Rattle.container_model.specs.Chunk.{Chunk, spell, spell_all}
@@ -12,7 +13,7 @@ use Rattle.container_model.specs.Units.{Cell, Piece, Slot, begun, closed, copied
 use Rattle.mov_model.proofs.Laid.{LastOnly}
 use Rattle.mov_model.specs.Atoms.{atom, cell_by, cell_of, is, is_padding}
 use Rattle.mov_model.specs.Movie.{add_last, add_new, carried, carry_by, ends_open, fill, first_cell, fresh, grown, hanging, has_carrier, only_gaps, padding}
-use Rattle.mov_model.specs.User.{Text, udta, user_items}
+use Rattle.mov_model.specs.User.{udta, user_items}
 
 module _ (g : Chunk → Chunk) where
   -- pieces whose copied chunks are changed
@@ -159,7 +160,7 @@ module _ (g : Chunk → Chunk) where
   -- ---- the cells of an edit
 
   module _ (same : (c : Chunk) → is c (codes "trak") ≡ false → g c ≡ c) where
-    fixed_first : (e : List (Item Text)) (cs : List Chunk) → AllByRecursion (λ c. (lacks_pad c ≡ false) × Alike c (g c)) cs → FixedCells (map cell_of cs) × FixedCells (first_cell udta (edit_carrier udta user_items e) (map cell_of cs))
+    fixed_first : (e : List (Item Value)) (cs : List Chunk) → AllByRecursion (λ c. (lacks_pad c ≡ false) × Alike c (g c)) cs → FixedCells (map cell_of cs) × FixedCells (first_cell udta (edit_carrier udta user_items e) (map cell_of cs))
     fixed_first e [] h = (tt, tt)
     fixed_first e (c ∷ cs) h = go (is_padding c.id) refl (fixed_first e cs h.1)
       where
@@ -199,7 +200,7 @@ module _ (g : Chunk → Chunk) where
     fixed_new [] xs h = h
     fixed_new (c ∷ cs) xs h = fixed_add (fresh udta (c ∷ cs)) xs (ap (λ (x : Chunk). x ∷ []) (same (udta.fresh (c ∷ cs)) refl)) h
 
-    pub fixed_carried : (e : List (Item Text)) (cs : List Chunk) → AllByRecursion (λ c. (lacks_pad c ≡ false) × Alike c (g c)) cs → FixedCells (carried udta user_items e (map cell_of cs))
+    pub fixed_carried : (e : List (Item Value)) (cs : List Chunk) → AllByRecursion (λ c. (lacks_pad c ≡ false) × Alike c (g c)) cs → FixedCells (carried udta user_items e (map cell_of cs))
     fixed_carried [] cs h = (fixed_first [] cs h).0
     fixed_carried (i ∷ e) cs h = go (has_carrier udta (flat_map Rattle.container_model.specs.Units.live (map cell_of cs)))
       where

@@ -5,20 +5,20 @@ use Rattle.std.proofs.lemmas.List.{append-nil}
 use Rattle.std.proofs.lemmas.List.Concat.{flat_map-append}
 use Rattle.std.specs.List.{AllByRecursion, flat_map}
 use Rattle.std.specs.Str.{bytes_eq}
+use Rattle.part_tree.specs.declared.field.Value.{Value}
 use Rattle.container_model.proofs.Codec.{IsBytes}
 use Rattle.container_model.proofs.Items.{same_true, tokens_after}
 use Rattle.container_model.specs.Chunk.{Chunk, Run, ends}
 use Rattle.container_model.specs.Deep.{Token, Whole}
 use Rattle.container_model.specs.Items.{Item, edit_carrier, item_token, put_all, put_marks}
-use Rattle.mov_model.specs.Kept.{user}
 use Rattle.mov_model.proofs.Tables.{relocated_id, relocated_other, relocated_tokens}
 use Rattle.mov_model.proofs.User.{SetsUser, all_made, edited_again, fresh_again}
 use Rattle.mov_model.specs.Atoms.{format, is, moov}
-use Rattle.mov_model.specs.Kept.{Node, new_node, nodes, other, placed_nodes, plain_node, user_node}
+use Rattle.mov_model.specs.Kept.{Node, new_node, nodes, other, placed_nodes, plain_node, user, user_node}
 use Rattle.mov_model.specs.Movie.{edit_by, edited_chunks, first_carrier, fresh, has_carrier}
 use Rattle.mov_model.specs.Parts.{first_items, first_user, track_of}
 use Rattle.mov_model.specs.Tables.{relocated}
-use Rattle.mov_model.specs.User.{Text, udta, user_items}
+use Rattle.mov_model.specs.User.{udta, user_items}
 
 pub udta_no_trak : (c : Chunk) → udta.is c ≡ true → is c (codes "trak") ≡ false
 udta_no_trak c u = rw (same_true c.id (codes "udta") u) refl
@@ -40,7 +40,7 @@ module _ (f : ℕ → ℕ) where
   has_relocated [] = refl
   has_relocated (c ∷ cs) = ap (λ (t : Bool). t || has_carrier udta (map (relocated f) cs)) (relocated_is c) ∙ ap (λ (t : Bool). udta.is c || t) (has_relocated cs)
 
-  first_relocated : (e : List (Item Text)) (cs : List Chunk) → map (relocated f) (first_carrier udta (edit_carrier udta user_items e) cs) ≡ first_carrier udta (edit_carrier udta user_items e) (map (relocated f) cs)
+  first_relocated : (e : List (Item Value)) (cs : List Chunk) → map (relocated f) (first_carrier udta (edit_carrier udta user_items e) cs) ≡ first_carrier udta (edit_carrier udta user_items e) (map (relocated f) cs)
   first_relocated e [] = refl
   first_relocated e (c ∷ cs) =
       go (udta.is c) refl (first_relocated e cs)
@@ -62,7 +62,7 @@ module _ (f : ℕ → ℕ) where
   map-chunks (c ∷ a) b = ap (λ (x : List Chunk). relocated f c ∷ x) (map-chunks a b)
 
   -- to relocate and to edit are in either order the same
-  pub edited_relocated : (e : List (Item Text)) (cs : List Chunk) → map (relocated f) (edited_chunks udta user_items e cs) ≡ edited_chunks udta user_items e (map (relocated f) cs)
+  pub edited_relocated : (e : List (Item Value)) (cs : List Chunk) → map (relocated f) (edited_chunks udta user_items e cs) ≡ edited_chunks udta user_items e (map (relocated f) cs)
   edited_relocated [] cs = refl
   edited_relocated (i ∷ e) cs = go (has_carrier udta cs) ∙ ap (edit_by udta user_items (i ∷ e) (map (relocated f) cs)) (sym (has_relocated cs))
     where
@@ -120,7 +120,7 @@ module _ (f : ℕ → ℕ) where
 abbrev pub UserWhole : Chunk → Type 0
 UserWhole c = ((udta.opening c).stop ≡ ends) × IsBytes c.body
 
-module _ (e : List (Item Text)) (h : AllByRecursion SetsUser e) where
+module _ (e : List (Item Value)) (h : AllByRecursion SetsUser e) where
   items_first : (cs : List Chunk) → has_carrier udta cs ≡ true → AllByRecursion UserWhole (first_user cs) → first_items (first_carrier udta (edit_carrier udta user_items e) cs) ≡ put_all user_items e (first_items cs)
   items_first [] t w = absurd cc
   items_first (c ∷ cs) t w = go (udta.is c) refl t w (items_first cs)
@@ -211,7 +211,7 @@ module _ (e : List (Item Text)) (h : AllByRecursion SetsUser e) where
 
 -- ---- any edit, also of no item
 
-pub items_all : (e : List (Item Text)) (cs : List Chunk) → AllByRecursion SetsUser e → AllByRecursion UserWhole (first_user cs) → first_items (edited_chunks udta user_items e cs) ≡ put_all user_items e (first_items cs)
+pub items_all : (e : List (Item Value)) (cs : List Chunk) → AllByRecursion SetsUser e → AllByRecursion UserWhole (first_user cs) → first_items (edited_chunks udta user_items e cs) ≡ put_all user_items e (first_items cs)
 items_all [] cs h w = refl
 items_all (i ∷ e) cs h w = items_edited (i ∷ e) h cs (has_carrier udta cs) refl w
 
@@ -220,10 +220,10 @@ placed_nothing [] = refl
 placed_nothing (other ts ∷ ns) = ap (λ (x : List Node). other ts ∷ x) (placed_nothing ns)
 placed_nothing (user form ts rest ∷ ns) = refl
 
-pub nodes_all : (e : List (Item Text)) (cs : List Chunk) → AllByRecursion SetsUser e → AllByRecursion UserWhole (first_user cs) → nodes (edited_chunks udta user_items e cs) ≡ placed_nodes e (nodes cs)
+pub nodes_all : (e : List (Item Value)) (cs : List Chunk) → AllByRecursion SetsUser e → AllByRecursion UserWhole (first_user cs) → nodes (edited_chunks udta user_items e cs) ≡ placed_nodes e (nodes cs)
 nodes_all [] cs h w = sym (placed_nothing (nodes cs))
 nodes_all (i ∷ e) cs h w = nodes_edited (i ∷ e) h cs (has_carrier udta cs) refl w
 
-pub tracks_all : (e : List (Item Text)) (cs : List Chunk) → AllByRecursion SetsUser e → flat_map track_of (edited_chunks udta user_items e cs) ≡ flat_map track_of cs
+pub tracks_all : (e : List (Item Value)) (cs : List Chunk) → AllByRecursion SetsUser e → flat_map track_of (edited_chunks udta user_items e cs) ≡ flat_map track_of cs
 tracks_all [] cs h = refl
 tracks_all (i ∷ e) cs h = tracks_edited (i ∷ e) h cs (has_carrier udta cs)

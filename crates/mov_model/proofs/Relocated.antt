@@ -4,6 +4,7 @@ use Rattle.std.specs.Prelude.{codes, ◌&&◌}
 use Rattle.std.proofs.lemmas.Bool.{le-ltb}
 use Rattle.std.proofs.lemmas.List.{append-nil, drop_at, length-append, take_at}
 use Rattle.std.specs.List.{AllByRecursion, flat_map}
+use Rattle.part_tree.specs.declared.field.Value.{Value}
 use Rattle.container_model.proofs.Codec.{IsBytes}
 use Rattle.container_model.proofs.Deep.{Alike, all_len}
 use Rattle.container_model.proofs.Read.{Atom}
@@ -23,13 +24,13 @@ use Rattle.mov_model.proofs.Overlay.{Fixed, changed_brings, changed_cuts, change
 use Rattle.mov_model.proofs.Spans.{around, last, open_left}
 use Rattle.mov_model.proofs.Tables.{relocated_alike, relocated_other}
 use Rattle.mov_model.specs.Atoms.{atom, atoms_in, cell_of, format, moov}
-use Rattle.mov_model.specs.Movie.{Movie, all_atoms, carried, edit_cuts, ends_file, ends_open, fill, gaps_of, grown, hanging, is_open, kids_at, movie_of, new, new_kids, new_movie, overlaid, padding_behind, pieces_of, rest_behind, spell_movie, whole_pieces, with_size}
+use Rattle.mov_model.specs.Movie.{Movie, all_atoms, carried, edit_cuts, ends_file, ends_open, fill, gaps_of, grown, hanging, is_open, kids_at, movie_of, edited_file, new_kids, new_movie, overlaid, padding_behind, pieces_of, rest_behind, spell_movie, whole_pieces, with_size}
 use Rattle.mov_model.specs.Pieces.{held}
 use Rattle.mov_model.specs.Support.{Supported}
 use Rattle.mov_model.specs.Tables.{relocated}
-use Rattle.mov_model.specs.User.{Text, udta, user_items}
+use Rattle.mov_model.specs.User.{udta, user_items}
 
-module _ (m : Movie) (e : List (Item Text)) (joined : spell_all (atoms_in m.movie).chunks ++ (atoms_in m.movie).left ≡ m.movie.body) (no_pad : m.movie.pad ≡ [])
+module _ (m : Movie) (e : List (Item Value)) (joined : spell_all (atoms_in m.movie).chunks ++ (atoms_in m.movie).left ≡ m.movie.body) (no_pad : m.movie.pad ≡ [])
     (fine : AllByRecursion (λ c. (lacks_pad c ≡ false) × Alike c (relocated (shift (edit_cuts m e)) c)) (atoms_in m.movie).chunks) where
   abbrev g : Chunk → Chunk
   g = relocated (shift (edit_cuts m e))
@@ -156,14 +157,14 @@ kids_all : (f : ℕ → ℕ) (cs : List Chunk) → AllByRecursion (Atom inside) 
 kids_all f [] a w b = tt
 kids_all f (c ∷ cs) a w b = ((le-ltb _ _ (omega (arith, a.0.pad_none)), relocated_alike f c w.0 b.0), kids_all f cs a.1 w.1 b.1)
 
-pub overlay_law : (o : List ℕ) (e : List (Item Text)) → IsBytes o → Supported o
-    → new o e ≡ with_size (movie_of o) (length (new_movie (movie_of o) e).movie.body) (splice (spell_movie (overlaid (movie_of o) e)) (edit_cuts (movie_of o) e))
-unfolding new
+pub overlay_law : (o : List ℕ) (e : List (Item Value)) → IsBytes o → Supported o
+    → edited_file o e ≡ with_size (movie_of o) (length (new_movie (movie_of o) e).movie.body) (splice (spell_movie (overlaid (movie_of o) e)) (edit_cuts (movie_of o) e))
+unfolding edited_file
 overlay_law o e bytes sup =
     new_is_overlaid (movie_of o) e (kids_joined o bytes sup) (moov_padless o bytes sup)
     (kids_all (shift (edit_cuts (movie_of o) e)) (kids o bytes sup) (kids_read o bytes sup).0 (whole_kids (kids o bytes sup) sup.movie.tracks_end) (kids_bytes o bytes sup))
 
-pub splice_law : (o : List ℕ) (e : List (Item Text)) → IsBytes o → Supported o
+pub splice_law : (o : List ℕ) (e : List (Item Value)) → IsBytes o → Supported o
     → spell_movie (Rattle.mov_model.specs.Movie.laid_movie (movie_of o) e) ≡ with_size (movie_of o) (length (Rattle.mov_model.specs.Movie.laid_movie (movie_of o) e).movie.body) (splice o (edit_cuts (movie_of o) e))
 splice_law o e bytes sup =
     Rattle.mov_model.proofs.Spans.laid_is_spliced (movie_of o) e (kids_joined o bytes sup) (moov_padless o bytes sup)

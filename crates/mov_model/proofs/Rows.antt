@@ -1,16 +1,16 @@
-use Rattle.std.proofs.Common.{◌≡◌, ℕ, List, [], ◌∷◌, Some, refl}
-use Rattle.container_model.specs.Chunk.{read, chunks}
-use Rattle.container_model.specs.Units.{units}
+use Rattle.std.proofs.Common.{List, Some, [], refl, ℕ, ◌∷◌, ◌≡◌}
+use Rattle.part_tree.specs.declared.field.Value.{Value}
+use Rattle.container_model.specs.Chunk.{chunks, read}
 use Rattle.container_model.specs.Deep.{mend}
 use Rattle.container_model.specs.Items.{Item}
-use Rattle.mov_model.specs.User.{Text}
-use Rattle.mov_model.specs.Movie.{new}
+use Rattle.container_model.specs.Units.{units}
+use Rattle.mov_model.specs.Movie.{edited_file}
 
 abbrev pub nam : List ℕ
 nam = 169 ∷ 110 ∷ 97 ∷ 109 ∷ []
 
-abbrev pub set : List ℕ → List (Item Text)
-set t = record { name = nam; value = Some (record { language = 21 ∷ 199 ∷ []; text = t }) } ∷ []
+abbrev pub set : List ℕ → List (Item Value)
+set t = record { name = nam; value = Some (record { lang = 5575; raw = t }) } ∷ []
 
 abbrev pub m15 : List ℕ
 m15 = 0 ∷ 0 ∷ 0 ∷ 20 ∷ 102 ∷ 116 ∷ 121 ∷ 112 ∷ 113 ∷ 116 ∷ 32 ∷ 32 ∷ 0 ∷ 0 ∷ 0 ∷ 0 ∷ 113 ∷ 116 ∷ 32 ∷ 32 ∷ 0 ∷ 0 ∷ 0 ∷ 136 ∷ 109 ∷ 111 ∷ 111 ∷ 118 ∷ 0 ∷ 0 ∷ 0 ∷ 104 ∷ 116 ∷ 114 ∷ 97 ∷ 107 ∷ 0 ∷ 0 ∷ 0 ∷ 96 ∷ 109 ∷ 100 ∷ 105 ∷ 97 ∷ 0 ∷ 0 ∷ 0 ∷ 88 ∷ 109 ∷ 105 ∷ 110 ∷ 102 ∷ 0 ∷ 0 ∷ 0 ∷ 80 ∷ 115 ∷ 116 ∷ 98 ∷ 108 ∷ 0 ∷ 0 ∷ 0 ∷ 28 ∷ 115 ∷ 116 ∷ 115 ∷ 99 ∷ 0 ∷ 0 ∷ 0 ∷ 0 ∷ 0 ∷ 0 ∷ 0 ∷ 1 ∷ 0 ∷ 0 ∷ 0 ∷ 1 ∷ 0 ∷ 0 ∷ 0 ∷ 1 ∷ 0 ∷ 0 ∷ 0 ∷ 1 ∷ 0 ∷ 0 ∷ 0 ∷ 20 ∷ 115 ∷ 116 ∷ 115 ∷ 122 ∷ 0 ∷ 0 ∷ 0 ∷ 0 ∷ 0 ∷ 0 ∷ 0 ∷ 8 ∷ 0 ∷ 0 ∷ 0 ∷ 2 ∷ 0 ∷ 0 ∷ 0 ∷ 24 ∷ 115 ∷ 116 ∷ 99 ∷ 111 ∷ 0 ∷ 0 ∷ 0 ∷ 0 ∷ 0 ∷ 0 ∷ 0 ∷ 2 ∷ 0 ∷ 0 ∷ 0 ∷ 188 ∷ 0 ∷ 0 ∷ 0 ∷ 196 ∷ 0 ∷ 0 ∷ 0 ∷ 24 ∷ 117 ∷ 100 ∷ 116 ∷ 97 ∷ 0 ∷ 0 ∷ 0 ∷ 16 ∷ 169 ∷ 110 ∷ 97 ∷ 109 ∷ 0 ∷ 4 ∷ 21 ∷ 199 ∷ 82 ∷ 101 ∷ 101 ∷ 108 ∷ 0 ∷ 0 ∷ 0 ∷ 24 ∷ 102 ∷ 114 ∷ 101 ∷ 101 ∷ 0 ∷ 0 ∷ 0 ∷ 0 ∷ 0 ∷ 0 ∷ 0 ∷ 0 ∷ 0 ∷ 0 ∷ 0 ∷ 0 ∷ 0 ∷ 0 ∷ 0 ∷ 0 ∷ 0 ∷ 0 ∷ 0 ∷ 24 ∷ 109 ∷ 100 ∷ 97 ∷ 116 ∷ 0 ∷ 0 ∷ 0 ∷ 0 ∷ 0 ∷ 0 ∷ 0 ∷ 0 ∷ 0 ∷ 0 ∷ 0 ∷ 0 ∷ 0 ∷ 0 ∷ 0 ∷ 1 ∷ []
@@ -46,22 +46,22 @@ longer = 76 ∷ 111 ∷ 110 ∷ 103 ∷ 101 ∷ 114 ∷ 32 ∷ 110 ∷ 97 ∷ 10
 abbrev re : List ℕ
 re = 82 ∷ 101 ∷ []
 
-pub row_15a : new m15 (set big) ≡ n15
-unfolding new units chunks read mend
+pub row_15a : edited_file m15 (set big) ≡ n15
+unfolding edited_file units chunks read mend
 row_15a = refl
 
-row_15b : new b15 (set big) ≡ n15
-unfolding new units chunks read mend
+row_15b : edited_file b15 (set big) ≡ n15
+unfolding edited_file units chunks read mend
 row_15b = refl
 
-row_16 : new m16 (set longer) ≡ n16
-unfolding new units chunks read mend
+row_16 : edited_file m16 (set longer) ≡ n16
+unfolding edited_file units chunks read mend
 row_16 = refl
 
-shrinks : new m15 (set re) ≡ s15
-unfolding new units chunks read mend
+shrinks : edited_file m15 (set re) ≡ s15
+unfolding edited_file units chunks read mend
 shrinks = refl
 
-row_15b_wide : new w15 (set big) ≡ wn15
-unfolding new units chunks read mend
+row_15b_wide : edited_file w15 (set big) ≡ wn15
+unfolding edited_file units chunks read mend
 row_15b_wide = refl

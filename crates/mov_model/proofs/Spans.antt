@@ -4,6 +4,7 @@ use Rattle.std.specs.Prelude.{◌&&◌}
 use Rattle.std.proofs.lemmas.Bool.{and_parts}
 use Rattle.std.proofs.lemmas.List.{append-nil, drop_at, length-append, take_at}
 use Rattle.std.specs.List.{flat_map}
+use Rattle.part_tree.specs.declared.field.Value.{Value}
 use Rattle.container_model.proofs.Units.{From, cuts_from, lay_splices, spell_all-append, splice_past, units_old}
 use Rattle.container_model.specs.Chunk.{Chunk, header_bytes, spell_all}
 use Rattle.container_model.specs.Items.{Item, is_nil}
@@ -14,13 +15,13 @@ use Rattle.mov_model.proofs.Clauses.{behind_split, opened_last, whole_brings}
 use Rattle.mov_model.proofs.Laid.{grown_bytes, grown_laid, last_units}
 use Rattle.mov_model.specs.Atoms.{atoms_in, cell_of}
 use Rattle.mov_model.specs.Movie.{Movie, carried, edit_cuts, ends_file, fill, gaps_of, grown, hanging, is_open, kids_at, laid_kids, laid_movie, padding_behind, pieces_of, rest_behind, slot_behind, spell_movie, whole_pieces, with_size}
-use Rattle.mov_model.specs.User.{Text, udta, user_items}
+use Rattle.mov_model.specs.User.{udta, user_items}
 
 nil_is : (x : List ℕ) → is_nil x ≡ true → x ≡ []
 nil_is [] e = refl
 nil_is (y ∷ x) e = absurd cc
 
-module _ (m : Movie) (e : List (Item Text)) (joined : spell_all (atoms_in m.movie).chunks ++ (atoms_in m.movie).left ≡ m.movie.body) (no_pad : m.movie.pad ≡ []) where
+module _ (m : Movie) (e : List (Item Value)) (joined : spell_all (atoms_in m.movie).chunks ++ (atoms_in m.movie).left ≡ m.movie.body) (no_pad : m.movie.pad ≡ []) where
   abbrev left : List ℕ
   left = (atoms_in m.movie).left
 

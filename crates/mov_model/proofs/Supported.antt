@@ -1,39 +1,37 @@
 -- The new movie is supported.
-use Rattle.std.proofs.Common.{Bool, List, [], ap, cond, false, length, map, refl, subst, sym, true, ℕ, ◌++◌, ◌^◌, ◌∙◌, ◌∷◌, ◌≡◌, ◌≤◌}
+use Rattle.std.proofs.Common.{Bool, List, [], ap, append_assoc, arith, cond, false, inl, inr, length, map, refl, subst, sym, true, ℕ, ◌++◌, ◌+◌, ◌^◌, ◌∙◌, ◌∷◌, ◌≡◌, ◌≤◌}
 use Rattle.std.specs.Prelude.{codes, ◌||◌}
+use Rattle.std.proofs.lemmas.List.{length-append}
 use Rattle.std.specs.List.{AllByRecursion}
+use Rattle.part_tree.specs.declared.field.Value.{Value}
 use Rattle.container_model.proofs.Codec.{IsBytes}
 use Rattle.container_model.proofs.Items.{same_true}
+use Rattle.container_model.proofs.Read.{Atom, AtomForm, told_of}
 use Rattle.container_model.proofs.Units.{All-both}
-use Rattle.container_model.specs.Chunk.{Chunk, Run, ends}
+use Rattle.container_model.specs.Chunk.{Chunk, Form, Run, ends, header_bytes, spell, spell_all}
 use Rattle.container_model.specs.Deep.{Whole}
 use Rattle.container_model.specs.Items.{Item, edit_carrier, put_all}
-use Rattle.container_model.specs.Units.{solids}
-use Rattle.mov_model.proofs.Again.{file_again, moov_again, mov, move, movie_again, now}
-use Rattle.mov_model.proofs.Kind.{moov_first, same_first}
-use Rattle.mov_model.specs.Kind.{is_movie}
-use Rattle.container_model.proofs.Read.{Atom, AtomForm, told_of}
 use Rattle.container_model.specs.Sizes.{top}
-use Rattle.container_model.specs.Chunk.{Form, header_bytes, spell, spell_all}
-use Rattle.std.proofs.Common.{append_assoc, inl, inr, arith, ◌+◌}
-use Rattle.std.proofs.lemmas.List.{length-append}
-use Rattle.mov_model.proofs.Again.{at_moov, before_read, file_bytes}
+use Rattle.container_model.specs.Units.{solids}
+use Rattle.mov_model.proofs.Again.{at_moov, before_read, file_again, file_bytes, moov_again, mov, move, movie_again, now}
 use Rattle.mov_model.proofs.Clauses.{all_tracks, behind_solids, held_again, new_parts, new_tracks, parts_whole, user_whole}
+use Rattle.mov_model.proofs.Kind.{moov_first, same_first}
 use Rattle.mov_model.proofs.Parts.{KidWhole, UserWhole, first_user_relocated, has_relocated, udta_no_trak}
 use Rattle.mov_model.proofs.Tables.{all_long, others_all, places_moved, relocated_id, relocated_names, relocated_references, relocated_tables, relocated_whole, short_all}
 use Rattle.mov_model.proofs.User.{edited_again, fresh_again}
 use Rattle.mov_model.specs.Atoms.{format, is, is_padding, moov}
-use Rattle.mov_model.specs.Edited.{Fits, UserItems}
+use Rattle.mov_model.proofs.Fits.{Fits, UserItems}
+use Rattle.mov_model.specs.Kind.{is_movie}
 use Rattle.mov_model.specs.Movie.{Movie, all_atoms, edit_by, edited_chunks, first_carrier, fresh, has_carrier, spell_movie}
 use Rattle.mov_model.specs.Parts.{first_user, has_id, parts, tracks}
 use Rattle.mov_model.specs.Reading.{no_twice}
 use Rattle.mov_model.specs.Support.{IsHeld, MovieFine, Supported, TrackFine, is_refused}
 use Rattle.mov_model.specs.Tables.{FitsRows, places, relocated, tables}
-use Rattle.mov_model.specs.User.{Text, udta, user_items}
+use Rattle.mov_model.specs.User.{udta, user_items}
 
 -- ---- what holds of each atom of moov after an edit
 
-module _ (P : Chunk → Type 0) (e : List (Item Text)) (step : (c : Chunk) → udta.is c ≡ true → P c → P (edit_carrier udta user_items e c)) (new : (c : Chunk) → udta.is c ≡ true → P c) where
+module _ (P : Chunk → Type 0) (e : List (Item Value)) (step : (c : Chunk) → udta.is c ≡ true → P c → P (edit_carrier udta user_items e c)) (new : (c : Chunk) → udta.is c ≡ true → P c) where
   all_carrier : (cs : List Chunk) → AllByRecursion P cs → AllByRecursion P (first_carrier udta (edit_carrier udta user_items e) cs)
   all_carrier [] h = tt
   all_carrier (c ∷ cs) h = go (udta.is c) refl (all_carrier cs h.1)
@@ -50,7 +48,7 @@ module _ (P : Chunk → Type 0) (e : List (Item Text)) (step : (c : Chunk) → u
   all_by cs true h = all_carrier cs h
   all_by cs false h = All-both P cs (fresh udta (put_all user_items e [])) h (all_fresh (put_all user_items e []))
 
-pub all_edited : (P : Chunk → Type 0) (e : List (Item Text)) → ((c : Chunk) → udta.is c ≡ true → P c) → (cs : List Chunk) → AllByRecursion P cs → AllByRecursion P (edited_chunks udta user_items e cs)
+pub all_edited : (P : Chunk → Type 0) (e : List (Item Value)) → ((c : Chunk) → udta.is c ≡ true → P c) → (cs : List Chunk) → AllByRecursion P cs → AllByRecursion P (edited_chunks udta user_items e cs)
 all_edited P [] new cs h = h
 all_edited P (i ∷ e) new cs h = all_by P (i ∷ e) (λ c u p. new (edit_carrier udta user_items (i ∷ e) c) u) new cs (has_carrier udta cs) h
 
@@ -60,7 +58,7 @@ all_map P Q g f (c ∷ cs) h = (f c h.0, all_map P Q g f cs h.1)
 
 -- ---- the first user data after an edit
 
-module _ (Q : Chunk → Type 0) (e : List (Item Text)) where
+module _ (Q : Chunk → Type 0) (e : List (Item Value)) where
   user_first : (cs : List Chunk) → has_carrier udta cs ≡ true → AllByRecursion (λ c. Q (edit_carrier udta user_items e c)) (first_user cs) → AllByRecursion Q (first_user (first_carrier udta (edit_carrier udta user_items e) cs))
   user_first [] t h = tt
   user_first (c ∷ cs) t h = go (udta.is c) refl t h (user_first cs)
@@ -88,7 +86,7 @@ module _ (Q : Chunk → Type 0) (e : List (Item Text)) where
   user_by cs true t h n = user_first cs t h
   user_by cs false t h n = user_behind cs (fresh udta (put_all user_items e [])) t (user_new (put_all user_items e []) (n t))
 
-user_edited : (Q : Chunk → Type 0) (e : List (Item Text)) (cs : List Chunk) → AllByRecursion Q (first_user cs) → AllByRecursion (λ c. Q (edit_carrier udta user_items e c)) (first_user cs)
+user_edited : (Q : Chunk → Type 0) (e : List (Item Value)) (cs : List Chunk) → AllByRecursion Q (first_user cs) → AllByRecursion (λ c. Q (edit_carrier udta user_items e c)) (first_user cs)
     → (has_carrier udta cs ≡ false → AllByRecursion Q (fresh udta (put_all user_items e []))) → AllByRecursion Q (first_user (edited_chunks udta user_items e cs))
 user_edited Q [] cs same h n = same
 user_edited Q (i ∷ e) cs same h n = user_by Q (i ∷ e) cs (has_carrier udta cs) refl h n
@@ -108,7 +106,7 @@ plain_whole c u = rw (udta_no_trak c u) tt
 plain_accepted : (c : Chunk) → udta.is c ≡ true → is_refused c ≡ false
 plain_accepted c u = rw (same_true c.id (codes "udta") u) refl
 
-module _ (o : List ℕ) (bytes : IsBytes o) (sup : Supported o) (e : List (Item Text)) (user : UserItems e) (fits : Fits (mov o bytes sup) e) where
+module _ (o : List ℕ) (bytes : IsBytes o) (sup : Supported o) (e : List (Item Value)) (user : UserItems e) (fits : Fits (mov o bytes sup) e) where
   abbrev old : Movie
   old = mov o bytes sup
 

@@ -1,10 +1,15 @@
 -- User items and user data are read as they are made.
 use Rattle.std.proofs.Common.{Bool, List, None, Option, Some, [], ap, arith, cond, drop, false, inl, length, ltb, map, refl, suc, sym, take, true, zero, ℕ, ◌++◌, ◌+◌, ◌<◌, ◌^◌, ◌∙◌, ◌∷◌, ◌≡◌}
-use Rattle.std.proofs.lemmas.Bool.{le-ltb}
-use Rattle.std.proofs.lemmas.List.{append-nil, drop_at, length-append, take_at}
+use Rattle.std.specs.Prelude.{◌&&◌, ◌==◌}
+use Rattle.std.proofs.lemmas.Bool.{and_parts, eqb-true, le-ltb}
+use Rattle.std.proofs.lemmas.List.{append-nil, length-append}
 use Rattle.std.proofs.lemmas.Nat.{from_be_bytes-to_be_bytes_2}
+use Rattle.std.specs.Char.{is_ascii_alphanumeric}
 use Rattle.std.specs.Int.{to_be_bytes, w16}
-use Rattle.std.specs.List.{AllByRecursion}
+use Rattle.std.specs.List.{AllByRecursion, list_all}
+use Rattle.std.specs.Str.{bytes_eq}
+use Rattle.part_tree.specs.Names.{is_user_type}
+use Rattle.part_tree.specs.declared.field.Value.{Value}
 use Rattle.container_model.proofs.Atoms.{atoms_give_back, short_head}
 use Rattle.container_model.proofs.Codec.{IsBytes, chunks_joined, chunks_read, chunks_spelled}
 use Rattle.container_model.proofs.Items.{all_after}
@@ -13,18 +18,18 @@ use Rattle.container_model.specs.Chunk.{Chunk, Run, chunks, ends, spell_all, too
 use Rattle.container_model.specs.Items.{AreMade, IsMade, Item, OpensAs, Rereads, edit_carrier, item_token, put_all, values}
 use Rattle.container_model.specs.Sizes.{Level, atom_front, user}
 use Rattle.mov_model.specs.Atoms.{atom}
-use Rattle.mov_model.specs.User.{IsUserValue, Text, found, is_user_type, text_bytes, text_size, text_then, texts, texts_in, udta, user_items, with_text}
+use Rattle.mov_model.specs.User.{IsUserValue, text_language, found, text_bytes, text_size, text_then, texts, texts_in, udta, user_items, with_text}
 
 -- one text is read as it is written
-text_read : (t : Text) → length t.language ≡ 2 → length t.text < 2 ^ 16 → texts (text_bytes t) ≡ t ∷ []
+text_read : (t : Value) → t.lang < 2 ^ 16 → length t.raw < 2 ^ 16 → texts (text_bytes t) ≡ t ∷ []
 text_read t l lt =
-    let n = length t.text in
+    let n = length t.raw in
     let b = text_bytes t in
-    let len : length b ≡ 4 + n = omega (arith, length-append (to_be_bytes w16 n) (t.language ++ t.text), length-append t.language t.text) in
+    let len : length b ≡ 4 + n = omega (arith, length-append (to_be_bytes w16 n) (to_be_bytes w16 t.lang ++ t.raw), length-append (to_be_bytes w16 t.lang) t.raw) in
     let size : text_size b ≡ n = from_be_bytes-to_be_bytes_2 n lt in
     let fits : ltb (length b) (4 + n) ≡ false = le-ltb _ _ (omega (arith, len)) in
-    let lang : take 2 (drop 2 b) ≡ t.language = take_at t.language t.text 2 l in
-    let split : drop 4 b ≡ t.text = drop_at (to_be_bytes w16 n ++ t.language) t.text 4 (omega (arith, length-append (to_be_bytes w16 n) t.language)) in
+    let lang : text_language b ≡ t.lang = from_be_bytes-to_be_bytes_2 t.lang l in
+    let split : drop 4 b ≡ t.raw = refl in
     go b n len size fits lang split
   where
     all : (x : List ℕ) → take (length x) x ≡ x
@@ -37,25 +42,25 @@ text_read t l lt =
     last zero = refl
     last (suc k) = refl
 
-    made : (k : ℕ) (lang text rest : List ℕ) → lang ≡ t.language → text ≡ t.text → rest ≡ [] → found (with_text (record { language = lang; text = text }) (texts_in k rest)) ≡ t ∷ []
+    made : (k lang : ℕ) (text rest : List ℕ) → lang ≡ t.lang → text ≡ t.raw → rest ≡ [] → found (with_text (record { lang = lang; raw = text }) (texts_in k rest)) ≡ t ∷ []
     made k lang text rest e i j = rw (e, i, j) (last k)
 
-    go : (b : List ℕ) (n : ℕ) → length b ≡ 4 + n → text_size b ≡ n → ltb (length b) (4 + n) ≡ false → take 2 (drop 2 b) ≡ t.language → drop 4 b ≡ t.text → found (texts_in (length b) b) ≡ t ∷ []
+    go : (b : List ℕ) (n : ℕ) → length b ≡ 4 + n → text_size b ≡ n → ltb (length b) (4 + n) ≡ false → text_language b ≡ t.lang → drop 4 b ≡ t.raw → found (texts_in (length b) b) ≡ t ∷ []
     go [] n len size fits lang split = absurd (omega (arith, len))
     go (x ∷ b) n len size fits lang split =
         let long : ltb (length (x ∷ b)) (4 + text_size (x ∷ b)) ≡ false = ap (λ (m : ℕ). ltb (length (x ∷ b)) (4 + m)) size ∙ fits in
-        let same : n ≡ length t.text = omega (arith, len, ap length split, Rattle.std.proofs.lemmas.List.length-drop 4 (x ∷ b)) in
-        let text : take (text_size (x ∷ b)) (drop 4 (x ∷ b)) ≡ t.text = ap (λ (m : ℕ). take m (drop 4 (x ∷ b))) (size ∙ same) ∙ ap (take (length t.text)) split ∙ all t.text in
-        let rest : drop (text_size (x ∷ b)) (drop 4 (x ∷ b)) ≡ [] = ap (λ (m : ℕ). drop m (drop 4 (x ∷ b))) (size ∙ same) ∙ ap (drop (length t.text)) split ∙ none t.text in
-        ap (λ (u : Bool). found (text_then (texts_in (length b)) (x ∷ b) u)) long ∙ made (length b) (take 2 (drop 2 (x ∷ b))) (take (text_size (x ∷ b)) (drop 4 (x ∷ b))) (drop (text_size (x ∷ b)) (drop 4 (x ∷ b))) lang text rest
+        let same : n ≡ length t.raw = omega (arith, len, ap length split, Rattle.std.proofs.lemmas.List.length-drop 4 (x ∷ b)) in
+        let text : take (text_size (x ∷ b)) (drop 4 (x ∷ b)) ≡ t.raw = ap (λ (m : ℕ). take m (drop 4 (x ∷ b))) (size ∙ same) ∙ ap (take (length t.raw)) split ∙ all t.raw in
+        let rest : drop (text_size (x ∷ b)) (drop 4 (x ∷ b)) ≡ [] = ap (λ (m : ℕ). drop m (drop 4 (x ∷ b))) (size ∙ same) ∙ ap (drop (length t.raw)) split ∙ none t.raw in
+        ap (λ (u : Bool). found (text_then (texts_in (length b)) (x ∷ b) u)) long ∙ made (length b) (text_language (x ∷ b)) (take (text_size (x ∷ b)) (drop 4 (x ∷ b))) (drop (text_size (x ∷ b)) (drop 4 (x ∷ b))) lang text rest
 
 -- ---- what an edit may set
 
 -- a type of user items, a language of two bytes, and a text whose length fits
-abbrev pub SetsUser : Item Text → Type 0
+abbrev pub SetsUser : Item Value → Type 0
 SetsUser i = IsUserValue i.name i.value
 
-pub user_made : (name : List ℕ) (value : Option Text) → IsUserValue name value → IsMade user_items name value
+pub user_made : (name : List ℕ) (value : Option Value) → IsUserValue name value → IsMade user_items name value
 user_made name None h = tt
 user_made name (Some t) h = (refl, cond_is (is_user_type name) h.0 (text_read t h.1 h.2))
   where
@@ -64,32 +69,29 @@ user_made name (Some t) h = (refl, cond_is (is_user_type name) h.0 (text_read t 
     cond_is false e h = absurd cc
 
 user_len : (id : List ℕ) → is_user_type id ≡ true → length id ≡ 4
-user_len [] h = absurd cc
-user_len (a ∷ []) h = absurd cc
-user_len (a ∷ (b ∷ [])) h = absurd cc
-user_len (a ∷ (b ∷ (c ∷ []))) h = absurd cc
-user_len (a ∷ (b ∷ (c ∷ (d ∷ [])))) h = refl
-user_len (a ∷ (b ∷ (c ∷ (d ∷ (x ∷ xs))))) h = absurd cc
+user_len id h =
+    let p = and_parts (bytes_eq (take 1 id) (169 ∷ [])) ((length id == 4) && list_all is_ascii_alphanumeric (drop 1 id)) h in
+    eqb-true (length id) 4 (and_parts (length id == 4) (list_all is_ascii_alphanumeric (drop 1 id)) p.1).0
 
 -- a new atom is read in every place
 pub atom_made : (s : Level) (id body : List ℕ) → length id ≡ 4 → length body + 8 < 2 ^ 32 → Atom s (atom id body)
 atom_made s id body l lt = record { head = short_head s (atom id body) refl l lt; no_pad = refl; pad_none = refl; id_len = l; short_or_long = inl refl }
 
-pub user_atom : (name : List ℕ) (t : Text) → IsUserValue name (Some t) → Atom user (atom name (text_bytes t))
+pub user_atom : (name : List ℕ) (t : Value) → IsUserValue name (Some t) → Atom user (atom name (text_bytes t))
 user_atom name t h =
-    atom_made user name (text_bytes t) (user_len name h.0) (omega (arith, length-append (to_be_bytes w16 (length t.text)) (t.language ++ t.text), length-append t.language t.text, h.1, h.2))
+    atom_made user name (text_bytes t) (user_len name h.0) (omega (arith, length-append (to_be_bytes w16 (length t.raw)) (to_be_bytes w16 t.lang ++ t.raw), length-append (to_be_bytes w16 t.lang) t.raw, h.2))
 
-pub all_made : (e : List (Item Text)) → AllByRecursion SetsUser e → AreMade user_items e
+pub all_made : (e : List (Item Value)) → AllByRecursion SetsUser e → AreMade user_items e
 all_made [] h = tt
 all_made (i ∷ e) h = (user_made i.name i.value h.0, all_made e h.1)
 
 -- ---- user data
 
-good_items : (e : List (Item Text)) → AllByRecursion SetsUser e → AllByRecursion (λ i. Rattle.container_model.proofs.Items.MakesGood user_items (Atom user) i.name i.value) e
+good_items : (e : List (Item Value)) → AllByRecursion SetsUser e → AllByRecursion (λ i. Rattle.container_model.proofs.Items.MakesGood user_items (Atom user) i.name i.value) e
 good_items [] h = tt
 good_items (i ∷ e) h = (one i.name i.value h.0, good_items e h.1)
   where
-    one : (name : List ℕ) (value : Option Text) → IsUserValue name value → Rattle.container_model.proofs.Items.MakesGood user_items (Atom user) name value
+    one : (name : List ℕ) (value : Option Value) → IsUserValue name value → Rattle.container_model.proofs.Items.MakesGood user_items (Atom user) name value
     one name None h = tt
     one name (Some t) h = user_atom name t h
 
@@ -104,13 +106,13 @@ pub items_again : (items : List Chunk) (rest : List ℕ) → AllByRecursion (Ato
 items_again items rest h r = chunks_spelled atom_front user items rest (atoms_again user items rest h r)
 
 -- edited user data is read as its items with the edit, and its rest
-pub edited_again : (e : List (Item Text)) (c : Chunk) → AllByRecursion SetsUser e → IsBytes c.body → (udta.opening c).stop ≡ ends
+pub edited_again : (e : List (Item Value)) (c : Chunk) → AllByRecursion SetsUser e → IsBytes c.body → (udta.opening c).stop ≡ ends
     → udta.opening (edit_carrier udta user_items e c) ≡ record { chunks = put_all user_items e (udta.opening c).chunks; stop = ends; left = (udta.opening c).left }
 edited_again e c h bytes whole =
     let r = items_read c bytes whole in
     items_again (put_all user_items e (udta.opening c).chunks) (udta.opening c).left (all_after user_items (Atom user) e (udta.opening c).chunks (good_items e h) r.0) r.1
 
-pub fresh_again : (e : List (Item Text)) → AllByRecursion SetsUser e
+pub fresh_again : (e : List (Item Value)) → AllByRecursion SetsUser e
     → udta.opening (udta.fresh (put_all user_items e [])) ≡ record { chunks = put_all user_items e []; stop = ends; left = [] }
 fresh_again e h =
     let items = put_all user_items e [] in

@@ -1,36 +1,49 @@
 -- What the new file is to the old one.
-use Rattle.std.specs.Prelude.{List, [], false, length, ℕ, ◌^◌, ◌≡◌, ◌≤◌}
-use Rattle.std.specs.List.{AllByRecursion}
-use Rattle.container_model.specs.Chunk.{spell}
-use Rattle.container_model.specs.Items.{Item, edit_carrier, put_all, updated, values}
-use Rattle.container_model.specs.Splice.{shift}
-use Rattle.mov_model.specs.Kept.{kept}
-use Rattle.mov_model.specs.Kept.{placed}
-use Rattle.mov_model.specs.Movie.{Movie, edit_cuts, fresh, has_carrier, movie_of, new_movie}
-use Rattle.mov_model.specs.Parts.{first_items, first_user, parts, tracks}
+use Rattle.std.specs.Prelude.{List, [], ◌∷◌, ℕ, ◌≡◌, Option}
+use Rattle.std.specs.List.{AllByRecursion, flat_map}
+use Rattle.part_tree.specs.Names.{IsFieldName}
+use Rattle.part_tree.specs.declared.field.EditItem.{EditItem}
+use Rattle.part_tree.specs.declared.field.FieldName.{FieldName}
+use Rattle.part_tree.specs.declared.field.FieldName.TheVariants.{User}
+use Rattle.part_tree.specs.declared.field.Value.{Value}
+use Rattle.field_model.specs.Fields.{FieldMap}
+use Rattle.field_model.specs.Update.{RawItem, effective, raw_items, update}
+use Rattle.container_model.specs.Items.{Item, values}
+use Rattle.mov_model.specs.Kept.{kept, placed}
+use Rattle.mov_model.specs.Movie.{movie_of, edited_file}
+use Rattle.mov_model.specs.Parts.{first_items, parts}
 use Rattle.mov_model.specs.Pieces.{pieces}
-use Rattle.mov_model.specs.Reading.{count_parts}
 use Rattle.mov_model.specs.Support.{Supported}
-use Rattle.mov_model.specs.Tables.{FitsRows, tables}
-use Rattle.mov_model.specs.User.{IsUserValue, Text, udta, user_items}
+use Rattle.mov_model.specs.User.{user_items}
 
-abbrev pub fields : List ℕ → List ℕ → List Text
-fields b name = values user_items name (first_items (parts (movie_of b)))
+-- the fields of a movie: the texts of its user items by their types
+abbrev pub fields : List ℕ → FieldMap
+fields b (User id) = values user_items id.0 (first_items (parts (movie_of b)))
+fields b name = []
 
-pub record Edited (o : List ℕ) (e : List (Item Text)) (n : List ℕ) : Type 0 where
+-- what the items of an edit that have an effect do to the user data
+abbrev pub user_item : FieldName → Option Value → List (Item Value)
+user_item (User id) value = record { name = id.0; value = value } ∷ []
+user_item name value = []
+
+abbrev pub user_edit : List RawItem → List (Item Value)
+user_edit e = flat_map (λ (i : RawItem). user_item i.name i.value) e
+
+abbrev pub changes : List ℕ → List EditItem → List (Item Value)
+changes o e = user_edit (raw_items (fields o) e)
+
+-- the new file
+abbrev pub new_file : List ℕ → List EditItem → List ℕ
+new_file o e = edited_file o (changes o e)
+
+-- each item names a field
+abbrev pub AreNamed : List EditItem → Type 0
+AreNamed e = AllByRecursion (λ (i : EditItem). IsFieldName i.name) e
+
+-- It is supported; its fields are the old ones updated; all else is kept in order; its tables find the same bytes; and where no item has an effect it is the old file.
+pub record Edited (o : List ℕ) (e : List EditItem) (n : List ℕ) : Type 0 where
   pub supported : Supported n
-  pub reads_back : (name : List ℕ) → fields n name ≡ updated e name (fields o name)
-  pub kept_in_order : kept n ≡ placed (kept o) e
+  pub reads_back : (name : FieldName) → fields n name ≡ update (fields o) e name
+  pub kept_in_order : kept n ≡ placed (kept o) (changes o e)
   pub same_pieces : pieces n ≡ pieces o
-  pub no_effect : e ≡ [] → n ≡ o
-
--- What an edit is asked for, and what is not too large.
-abbrev pub UserItems : List (Item Text) → Type 0
-UserItems e = AllByRecursion (λ i. IsUserValue i.name i.value) e
-
-pub record Fits (m : Movie) (e : List (Item Text)) : Type 0 where
-  pub user_small : AllByRecursion (λ c. length (edit_carrier udta user_items e c).body ≤ 2 ^ 24) (first_user (parts m))
-  pub fresh_small : has_carrier udta (parts m) ≡ false → AllByRecursion (λ c. length c.body ≤ 2 ^ 24) (fresh udta (put_all user_items e []))
-  pub movie_small : length (spell (new_movie m e).movie) ≤ 2 ^ 26
-  pub rows : AllByRecursion (λ t. AllByRecursion (FitsRows (shift (edit_cuts m e))) (tables t)) (tracks m)
-  pub few_parts : count_parts (new_movie m e) ≤ 65536
+  pub no_effect : effective (fields o) e ≡ [] → n ≡ o

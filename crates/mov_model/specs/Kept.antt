@@ -1,5 +1,6 @@
 -- What an edit keeps of a movie, in order, and where it puts the items of the user data.
 use Rattle.std.specs.Prelude.{List, [], codes, drop, if◌then◌else◌, map, replicate, take, ℕ, ◌*◌, ◌++◌, ◌+◌, ◌∷◌}
+use Rattle.part_tree.specs.declared.field.Value.{Value}
 use Rattle.container_model.specs.Chunk.{Chunk, Form, short}
 use Rattle.container_model.specs.Deep.{Token, leaf, tokens}
 use Rattle.container_model.specs.Items.{Item, item_token, put_marks}
@@ -9,7 +10,7 @@ use Rattle.mov_model.specs.Atoms.{Place, atoms_in, dinf, file, format, is, is_pa
 use Rattle.mov_model.specs.Movie.{Movie, movie_of}
 use Rattle.mov_model.specs.Parts.{parts}
 use Rattle.mov_model.specs.Tables.{count}
-use Rattle.mov_model.specs.User.{Text, udta, user_items}
+use Rattle.mov_model.specs.User.{udta, user_items}
 
 -- an atom of moov, or the user data with its items and its rest
 pub data Node : Type 0 where
@@ -69,12 +70,12 @@ abbrev pub new_node : List Token → List Node
 new_node [] = []
 new_node (t ∷ ts) = user short (t ∷ ts) [] ∷ []
 
-abbrev pub placed_nodes : List (Item Text) → List Node → List Node
+abbrev pub placed_nodes : List (Item Value) → List Node → List Node
 placed_nodes e [] = new_node (put_marks e [])
 placed_nodes e (other ts ∷ ns) = other ts ∷ placed_nodes e ns
 placed_nodes e (user form ts rest ∷ ns) = user form (put_marks e ts) rest ∷ ns
 
-abbrev pub placed : Kept → List (Item Text) → Kept
+abbrev pub placed : Kept → List (Item Value) → Kept
 placed k e = record k { inside = placed_nodes e k.inside }
 
 abbrev pub kept : List ℕ → Kept

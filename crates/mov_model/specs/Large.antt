@@ -1,16 +1,19 @@
 -- What is too large: the first of these sizes that passes its limit.
 use Rattle.std.specs.Prelude.{Bool, List, None, Option, Some, [], codes, if◌then◌else◌, length, map, nat_lt, ℕ, ◌++◌, ◌^◌, ◌∷◌}
 use Rattle.std.specs.List.{flat_map}
+use Rattle.part_tree.specs.declared.field.EditItem.{EditItem}
+use Rattle.mov_model.specs.Edited.{changes}
+use Rattle.part_tree.specs.declared.field.Value.{Value}
 use Rattle.container_model.specs.Chunk.{Chunk, spell}
 use Rattle.container_model.specs.Items.{Item, edit_carrier, put_all}
 use Rattle.container_model.specs.Rows.{be32, be64}
 use Rattle.container_model.specs.Splice.{shift}
 use Rattle.mov_model.specs.Atoms.{is}
-use Rattle.mov_model.specs.Movie.{Movie, edit_cuts, fresh, has_carrier, new_movie, spell_movie}
+use Rattle.mov_model.specs.Movie.{Movie, movie_of, edit_cuts, fresh, has_carrier, new_movie, spell_movie}
 use Rattle.mov_model.specs.Parts.{first_user, parts, tracks}
 use Rattle.mov_model.specs.Reading.{count_parts}
 use Rattle.mov_model.specs.Tables.{rows, tables}
-use Rattle.mov_model.specs.User.{Text, udta, user_items}
+use Rattle.mov_model.specs.User.{udta, user_items}
 
 pub record Size : Type 0 where
   pub size : ℕ
@@ -27,7 +30,7 @@ first_passing [] = None
 first_passing (s ∷ ss) = if passes s then Some s else first_passing ss
 
 -- the body of the user data, edited or new
-abbrev pub user_sizes : Movie → List (Item Text) → List Size
+abbrev pub user_sizes : Movie → List (Item Value) → List Size
 user_sizes m e =
     map (λ (c : Chunk). sized (length (edit_carrier udta user_items e c).body) (2 ^ 24)) (first_user (parts m))
     ++ (if has_carrier udta (parts m) then [] else map (λ (c : Chunk). sized (length c.body) (2 ^ 24)) (fresh udta (put_all user_items e [])))
@@ -38,16 +41,19 @@ row_sizes f c =
     if is c (codes "stco") then map (λ p. sized (f p) 4294967295) (rows be32 c)
     else (if is c (codes "co64") then map (λ p. sized (f p) 18446744073709551615) (rows be64 c) else [])
 
-abbrev pub table_sizes : Movie → List (Item Text) → List Size
+abbrev pub table_sizes : Movie → List (Item Value) → List Size
 table_sizes m e = flat_map (λ (t : Chunk). flat_map (row_sizes (shift (edit_cuts m e))) (tables t)) (tracks m)
 
-abbrev pub all_sizes : Movie → List (Item Text) → List Size
+abbrev pub all_sizes : Movie → List (Item Value) → List Size
 all_sizes m e =
     user_sizes m e
     ++ (sized (count_parts (new_movie m e)) 65536
     ∷ (sized (length (spell (new_movie m e).movie)) (2 ^ 26) ∷ (table_sizes m e ++ sized (length (spell_movie (new_movie m e))) 9223372036854775807 ∷ [])))
 
 -- without an item nothing is
-abbrev pub too_large : Movie → List (Item Text) → Option Size
-too_large m [] = None
-too_large m (i ∷ e) = first_passing (all_sizes m (i ∷ e))
+abbrev pub size_passed : Movie → List (Item Value) → Option Size
+size_passed m [] = None
+size_passed m (i ∷ e) = first_passing (all_sizes m (i ∷ e))
+
+abbrev pub too_large : List ℕ → List EditItem → Option Size
+too_large o e = size_passed (movie_of o) (changes o e)

@@ -1,14 +1,15 @@
 -- An edit of a QuickTime movie: the user data in `moov`, and the places of chunks in the tables.
-use Rattle.std.specs.Prelude.{ℕ, ◌+◌, ◌-◌, ◌^◌, nat_lt, nat_le, List, [], ◌∷◌, ◌++◌, length, map, take, drop, Bool, true, false, ◌&&◌, ◌||◌, codes, if◌then◌else◌}
+use Rattle.std.specs.Prelude.{Bool, List, [], codes, drop, false, if◌then◌else◌, length, map, nat_le, nat_lt, take, true, ℕ, ◌&&◌, ◌++◌, ◌+◌, ◌-◌, ◌^◌, ◌||◌, ◌∷◌}
 use Rattle.std.specs.List.{flat_map}
-use Rattle.container_model.specs.Chunk.{header_bytes, Chunk, spell_all, Run, chunks}
-use Rattle.container_model.specs.Sizes.{top, atom_front}
+use Rattle.part_tree.specs.declared.field.Value.{Value}
+use Rattle.container_model.specs.Chunk.{Chunk, Run, chunks, header_bytes, spell_all}
+use Rattle.container_model.specs.Items.{Carrier, Item, Items, edit_carrier, is_nil, put_all}
+use Rattle.container_model.specs.Sizes.{atom_front, top}
 use Rattle.container_model.specs.Splice.{Cut, shift}
-use Rattle.container_model.specs.Units.{Cell, kept, gap, edited, shut, Piece, copied, replaced, unit_bytes, Fill, units, lay, cuts, live}
-use Rattle.container_model.specs.Items.{Items, Item, Carrier, put_all, edit_carrier, is_nil}
-use Rattle.mov_model.specs.Atoms.{is, is_padding, cell_of, atom, atoms_in}
-use Rattle.mov_model.specs.User.{Text, user_items, udta}
+use Rattle.container_model.specs.Units.{Cell, Fill, Piece, copied, cuts, edited, gap, kept, lay, live, replaced, shut, unit_bytes, units}
+use Rattle.mov_model.specs.Atoms.{atom, atoms_in, cell_of, is, is_padding}
 use Rattle.mov_model.specs.Tables.{relocated}
+use Rattle.mov_model.specs.User.{udta, user_items}
 
 -- ---- the edit of a carrier among cells: the first one, or a new one behind the last cell that is no padding
 
@@ -133,7 +134,7 @@ hanging f (replaced lead slot now false ∷ ps) = hanging f ps
 
 -- ---- the new movie
 
-module _ (m : Movie) (e : List (Item Text)) where
+module _ (m : Movie) (e : List (Item Value)) where
   abbrev pub pieces_of : List Piece
   pieces_of = units shut (carried udta user_items e (map cell_of (atoms_in m.movie).chunks))
 
@@ -190,8 +191,8 @@ module _ (m : Movie) (e : List (Item Text)) where
   abbrev pub overlaid : Movie
   overlaid = record m { movie = record m.movie { body = spell_all (map (relocated (shift edit_cuts)) (atoms_in m.movie).chunks) ++ (atoms_in m.movie).left } }
 
-unfoldable pub new : List ℕ → List (Item Text) → List ℕ
-new o e = spell_movie (new_movie (movie_of o) e)
+unfoldable pub edited_file : List ℕ → List (Item Value) → List ℕ
+edited_file o e = spell_movie (new_movie (movie_of o) e)
 
 -- the bytes of a movie with another size in the header of moov
 abbrev pub with_size : Movie → ℕ → List ℕ → List ℕ
