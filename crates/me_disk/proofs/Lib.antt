@@ -4,3 +4,6 @@ pub mod Runs
 pub mod Sound
 pub mod Holds
 mod Fronts
+pub mod Reopened
+pub mod CarriedOut
+pub mod Since

@@ -2,7 +2,9 @@ pub mod Calls
 pub mod Causes
 pub mod Disk
 pub mod Steps
+pub mod Limits
 pub mod Memory
+pub mod Reopened
 pub mod Store
 pub mod Silent
 pub mod Holds

@@ -3,15 +3,17 @@
 
 mod counts;
 mod depot;
+mod limits;
 mod memory;
 mod path;
+mod reopen;
 mod store;
 mod stream;
 
 pub use depot::{Depot, DepotFault, Slot, WorkState};
-pub use memory::MemoryDepot;
+pub use limits::{FailAt, Room};
+pub use memory::{MemoryDepot, Pick};
 pub use path::PathDepot;
-pub use store::{FailAt, Fate, Held, Logged, Odds, Store};
 pub use stream::{
     MemorySink, MemorySource, Sink, SinkFault, Source, SourceFault, StdSink, StdSource,
 };
