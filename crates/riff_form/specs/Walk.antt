@@ -1,8 +1,8 @@
 -- One step of a walk over a file, and what it is to the chunks of its bytes.
-use Rattle.std.specs.Prelude.{◌≡◌, ℕ, ◌+◌, ◌-◌, ◌<◌, ◌≤◌, List, length, take, drop, IsTrue}
+use Rattle.std.specs.Prelude.{◌≡◌, ℕ, ◌+◌, ◌-◌, ◌%◌, ◌≤◌, min, List, length, drop}
 use Rattle.std.specs.declared.option.Option.{Option}
 use Rattle.std.specs.declared.option.Option.TheVariants.{Some, None}
-use Rattle.container_model.specs.Chunk.{Form, riff, Chunk, Header, too_short, full_header, Run, spell, ends, chunks, chunk_of, and_then, stopped, passes, pad_len, behind}
+use Rattle.container_model.specs.Chunk.{Form, riff, Chunk, Header, too_short, full_header, Run, spell, ends, chunks, and_then, stopped, passes, pad_len}
 use Rattle.container_model.specs.Sizes.{plain, Sizes, sized, riff_front}
 use Rattle.container_model.specs.Written.{slice}
 use Rattle.container_model.specs.Windows.{window}
@@ -49,6 +49,7 @@ pub record InOrder (at end : ℕ) (k : ChunkAt) : Type 0 where
   pub body : k.body.at ≡ at + 8
   pub whole : k.body.at + k.body.len ≤ k.next
   pub last : k.next ≤ end
+  pub behind : k.next ≡ min end (k.body.at + k.body.len + k.body.len % 2)
 
 -- where a walker stands then
 abbrev pub place_after : ℕ → Option ChunkAt → ℕ

@@ -143,6 +143,7 @@ impl Walker {
         ensures chunk { IfOk result (λ found. IfSome found (λ chunk. InOrder self.old.at self.old.end chunk)) }
         ensures moved { IfOk result (λ found. self.new.at ≡ place_after self.old.at found) }
         ensures end { self.new.end ≡ self.old.end }
+        ensures stays { OnErr result (self.new.at ≡ self.old.at) }
         ensures row { (b : List ℕ) → Holds (D.disk depot.old) b → IfOk result (λ found. Stepped b self.old.at self.old.end found) }
         ensures stuck { (b : List ℕ) → Holds (D.disk depot.old) b → IfErr result (λ fault. Stuck b self.old.at self.old.end fault) }
         ensures reads { ReadsOnly (D.disk depot.old) (D.disk depot.new) }
@@ -165,6 +166,7 @@ impl Walker {
         ensures chunk { IfOk result (λ found. IfSome found (λ chunk. InOrder self.old.at self.old.end chunk)) }
         ensures moved { IfOk result (λ found. self.new.at ≡ place_after self.old.at found) }
         ensures end { self.new.end ≡ self.old.end }
+        ensures stays { OnErr result (self.new.at ≡ self.old.at) }
         ensures row { IfOk result (λ found. Stepped bytes.now self.old.at self.old.end found) }
         ensures stuck { IfErr result (λ fault. Stuck bytes.now self.old.at self.old.end (StepFault.Truncated fault.at)) }
     {
