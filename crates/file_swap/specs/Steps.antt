@@ -1,0 +1,93 @@
+-- The device calls of a plan, one after another.
+use Rattle.std.specs.Prelude.{ℕ, zero, suc, ◌+◌, ◌-◌, ◌/◌, min, nat_lt, if◌then◌else◌, List, [], ◌∷◌, ◌++◌, length, take, drop, map}
+use Rattle.std.specs.List.{flat_map}
+use Rattle.part_tree.specs.declared.plan.Patch.{Patch}
+use Rattle.part_tree.specs.declared.names.Span.{Span}
+use Rattle.part_tree.specs.declared.plan.Segment.{Segment}
+use Rattle.part_tree.specs.declared.plan.Segment.TheVariants.{Copy, Literal}
+use Rattle.part_tree.specs.declared.plan.Plan.{Plan}
+use Rattle.part_tree.specs.declared.plan.Plan.TheVariants.{InPlace, Rewrite}
+use Rattle.me_disk.specs.Calls.{Call}
+use Rattle.me_disk.specs.Calls.Call.{BeginWork, AppendWork, SyncWork, InstallMain, InstallJournal, WriteMain, SetMainLen, SyncMain, DropJournal}
+use Rattle.edit_journal.specs.Journal.{spelled}
+use Rattle.edit_journal.specs.Settled.{laid}
+
+-- a call that changes the depot, one that reads a range of the file, or one that appends the n bytes that were read last
+pub data Step : Type 0 where
+  Makes : Call → Step
+  Reads : ℕ → ℕ → Step
+  Appends : ℕ → Step
+
+-- ---- blocks
+
+abbrev pub block : ℕ
+block = 65536
+
+-- the least number of blocks that hold so many bytes
+abbrev pub blocks : ℕ → ℕ
+blocks m = (m + 65535) / 65536
+
+pub record Range : Type 0 where
+  pub at : ℕ
+  pub len : ℕ
+
+-- so many blocks of the range, the last one perhaps shorter
+abbrev pub cut_in : ℕ → ℕ → ℕ → List Range
+cut_in zero at len = []
+cut_in (suc k) at len = record { at = at; len = min block len } ∷ cut_in k (at + min block len) (len - min block len)
+
+-- the range in blocks
+abbrev pub ranges : ℕ → ℕ → List Range
+ranges at len = cut_in (blocks len) at len
+
+abbrev pub part : List ℕ → Range → List ℕ
+part b r = take r.len (drop r.at b)
+
+-- ---- the parts of a list of steps
+
+-- these bytes from a place on, at the end of `Work`
+abbrev pub appends : List ℕ → ℕ → List Step
+appends b from = map (λ r. Makes (AppendWork (part b r))) (ranges from (length b - from))
+
+-- the patch, from a place in it on
+abbrev pub writes : Patch → ℕ → List Step
+writes p from = map (λ r. Makes (WriteMain (p.at + r.at) (part p.bytes r))) (ranges from (length p.bytes - from))
+
+abbrev pub copies : ℕ → ℕ → List Step
+copies at len = flat_map (λ r. Reads r.at r.len ∷ Appends r.len ∷ []) (ranges at len)
+
+abbrev pub segment_steps : Segment → List Step
+segment_steps (Copy s) = copies s.at s.len
+segment_steps (Literal b) = appends b 0
+
+-- ---- the lists
+
+abbrev pub after_writes : List Step
+after_writes = Makes SyncMain ∷ Makes DropJournal ∷ []
+
+abbrev pub cut_steps : ℕ → ℕ → List Step
+cut_steps old new = (if nat_lt new old then Makes (SetMainLen new) ∷ [] else []) ++ after_writes
+
+abbrev pub install_steps : ℕ → ℕ → List Patch → List Step
+install_steps old new ps = Makes SyncWork ∷ Makes InstallJournal ∷ (flat_map (λ p. writes p 0) ps ++ cut_steps old new)
+
+abbrev pub end_steps : List Step
+end_steps = Makes SyncWork ∷ Makes InstallMain ∷ []
+
+abbrev pub steps : Plan → List Step
+steps (InPlace old new ps) = Makes BeginWork ∷ (appends (spelled old new ps) 0 ++ install_steps old new ps)
+steps (Rewrite new segments) = Makes BeginWork ∷ (flat_map segment_steps segments ++ end_steps)
+
+-- how many calls a plan has
+unfoldable pub calls : Plan → ℕ
+calls p = length (steps p)
+
+-- ---- the new file
+
+abbrev pub segment_bytes : List ℕ → Segment → List ℕ
+segment_bytes o (Copy s) = take s.len (drop s.at o)
+segment_bytes o (Literal b) = b
+
+abbrev pub applied : Plan → List ℕ → List ℕ
+applied (InPlace old new ps) o = laid new ps o
+applied (Rewrite new segments) o = flat_map (segment_bytes o) segments
