@@ -1,15 +1,14 @@
--- The device calls of a plan, one after another.
-use Rattle.std.specs.Prelude.{ℕ, zero, suc, ◌+◌, ◌-◌, ◌/◌, min, nat_lt, if◌then◌else◌, List, [], ◌∷◌, ◌++◌, length, take, drop, map}
+-- The device calls of a plan, one after another, and the file that they make.
+use Rattle.std.specs.Prelude.{ℕ, zero, suc, ◌+◌, ◌-◌, ◌*◌, ◌/◌, min, nat_lt, if◌then◌else◌, List, [], ◌∷◌, ◌++◌, length, take, drop, get_or, map}
 use Rattle.std.specs.List.{flat_map}
 use Rattle.part_tree.specs.declared.plan.Patch.{Patch}
-use Rattle.part_tree.specs.declared.names.Span.{Span}
 use Rattle.part_tree.specs.declared.plan.Segment.{Segment}
 use Rattle.part_tree.specs.declared.plan.Segment.TheVariants.{Copy, Literal}
 use Rattle.part_tree.specs.declared.plan.Plan.{Plan}
 use Rattle.part_tree.specs.declared.plan.Plan.TheVariants.{InPlace, Rewrite}
-use Rattle.me_disk.specs.Calls.{Call}
+use Rattle.me_disk.specs.Calls.{Call, piece}
 use Rattle.me_disk.specs.Calls.Call.{BeginWork, AppendWork, SyncWork, InstallMain, InstallJournal, WriteMain, SetMainLen, SyncMain, DropJournal}
-use Rattle.edit_journal.specs.Journal.{spelled}
+use Rattle.edit_journal.specs.Journal.{spelled, all_bytes}
 use Rattle.edit_journal.specs.Settled.{laid}
 
 -- a call that changes the depot, one that reads a range of the file, or one that appends the n bytes that were read last
@@ -20,6 +19,7 @@ pub data Step : Type 0 where
 
 -- ---- blocks
 
+-- the most bytes that one call writes or reads
 abbrev pub block : ℕ
 block = 65536
 
@@ -27,6 +27,7 @@ block = 65536
 abbrev pub blocks : ℕ → ℕ
 blocks m = (m + 65535) / 65536
 
+-- so many bytes from a place on
 pub record Range : Type 0 where
   pub at : ℕ
   pub len : ℕ
@@ -40,6 +41,7 @@ cut_in (suc k) at len = record { at = at; len = min block len } ∷ cut_in k (at
 abbrev pub ranges : ℕ → ℕ → List Range
 ranges at len = cut_in (blocks len) at len
 
+-- the bytes of a range
 abbrev pub part : List ℕ → Range → List ℕ
 part b r = take r.len (drop r.at b)
 
@@ -53,6 +55,7 @@ appends b from = map (λ r. Makes (AppendWork (part b r))) (ranges from (length 
 abbrev pub writes : Patch → ℕ → List Step
 writes p from = map (λ r. Makes (WriteMain (p.at + r.at) (part p.bytes r))) (ranges from (length p.bytes - from))
 
+-- a range of the file, read and appended block by block
 abbrev pub copies : ℕ → ℕ → List Step
 copies at len = flat_map (λ r. Reads r.at r.len ∷ Appends r.len ∷ []) (ranges at len)
 
@@ -74,6 +77,8 @@ install_steps old new ps = Makes SyncWork ∷ Makes InstallJournal ∷ (flat_map
 abbrev pub end_steps : List Step
 end_steps = Makes SyncWork ∷ Makes InstallMain ∷ []
 
+-- In place: the journal is made and installed, the patches are written, what lies behind the new length is cut off, the file
+-- is synced, and the journal goes. A rewrite: the segments are appended to `Work`, which is synced and installed.
 abbrev pub steps : Plan → List Step
 steps (InPlace old new ps) = Makes BeginWork ∷ (appends (spelled old new ps) 0 ++ install_steps old new ps)
 steps (Rewrite new segments) = Makes BeginWork ∷ (flat_map segment_steps segments ++ end_steps)
@@ -82,12 +87,42 @@ steps (Rewrite new segments) = Makes BeginWork ∷ (flat_map segment_steps segme
 unfoldable pub calls : Plan → ℕ
 calls p = length (steps p)
 
+-- how many calls it has up to the one that installs the journal or the new file, that one counted
+abbrev pub install_call : Plan → ℕ
+install_call (InPlace old new ps) = 3 + blocks (length (spelled old new ps))
+install_call (Rewrite new segments) = length (steps (Rewrite new segments))
+
+-- the step after the first k
+abbrev pub step_at : Plan → ℕ → Step
+step_at p k = get_or (steps p) k (Makes DropJournal)
+
+-- ---- the bytes that they write
+
+abbrev pub step_bytes : Step → ℕ
+step_bytes (Makes c) = piece c
+step_bytes (Reads at n) = 0
+step_bytes (Appends n) = n
+
+abbrev pub bytes_in : List Step → ℕ
+bytes_in [] = 0
+bytes_in (s ∷ ss) = step_bytes s + bytes_in ss
+
+-- what the first k calls write
+abbrev pub bytes_by : Plan → ℕ → ℕ
+bytes_by p k = bytes_in (take k (steps p))
+
+-- what all of them write: the journal and the patches, or the new file
+abbrev pub bytes_written : Plan → ℕ
+bytes_written (InPlace old new ps) = 24 + 12 * length ps + 2 * all_bytes ps
+bytes_written (Rewrite new segments) = new
+
 -- ---- the new file
 
 abbrev pub segment_bytes : List ℕ → Segment → List ℕ
 segment_bytes o (Copy s) = take s.len (drop s.at o)
 segment_bytes o (Literal b) = b
 
+-- what the plan makes of a file
 abbrev pub applied : Plan → List ℕ → List ℕ
 applied (InPlace old new ps) o = laid new ps o
 applied (Rewrite new segments) o = flat_map (segment_bytes o) segments

@@ -1,0 +1,108 @@
+-- Where a rewrite stands, and the calls that it has left from there.
+use Rattle.std.specs.Prelude.{◌≡◌, ℕ, ◌+◌, ◌-◌, ◌<◌, min, List, [], ◌∷◌, ◌++◌, length, take, drop, get_or, ⊤}
+use Rattle.std.specs.List.{flat_map}
+use Rattle.part_tree.specs.declared.names.Span.{Span}
+use Rattle.part_tree.specs.declared.plan.Segment.{Segment}
+use Rattle.part_tree.specs.declared.plan.Segment.TheVariants.{Copy, Literal}
+use Rattle.part_tree.specs.declared.plan.Plan.{Plan}
+use Rattle.part_tree.specs.declared.plan.Plan.TheVariants.{Rewrite}
+use Rattle.std.specs.Prelude.{IsTrue}
+use Rattle.me_disk.specs.Disk.{Disk, bytes_of}
+use Rattle.me_disk.specs.Calls.Call.{BeginWork, AppendWork, SyncWork, InstallMain}
+use Rattle.file_swap.specs.Plans.{AddsUp}
+use Rattle.file_swap.specs.Steps.{Step, block, part, appends, copies, segment_steps, end_steps}
+use Rattle.file_swap.specs.Steps.Step.{Makes, Reads, Appends}
+use Rattle.file_swap.specs.declared.rewrite.Stage.{Stage}
+use Rattle.file_swap.specs.declared.rewrite.Stage.TheVariants.{Start, Read, Append, Put, Seal, Install, Ended}
+use Rattle.file_swap.specs.declared.rewrite.Parts.{Parts}
+use Rattle.file_swap.specs.declared.rewrite.Rewriting.{Rewriting}
+
+abbrev pub plan_of : Parts → Plan
+plan_of s = Rewrite s.new_len s.segments
+
+abbrev pub segment_at : List Segment → ℕ → Segment
+segment_at ss i = get_or ss i (Literal [])
+
+-- the range that it copies
+abbrev pub span_of : Segment → Span
+span_of (Copy s) = s
+span_of (Literal b) = record { at = 0; len = 0 }
+
+-- the bytes that it brings
+abbrev pub literal_of : Segment → List ℕ
+literal_of (Copy s) = []
+literal_of (Literal b) = b
+
+abbrev pub span_at : Parts → ℕ → Span
+span_at s i = span_of (segment_at s.segments i)
+
+abbrev pub literal_at : Parts → ℕ → List ℕ
+literal_at s i = literal_of (segment_at s.segments i)
+
+-- the length of the block from a place in the i-th copy on
+abbrev pub copy_len : Parts → ℕ → ℕ → ℕ
+copy_len s i from = min block ((span_at s i).len - from)
+
+-- the segments from the i-th on, and what follows them
+abbrev pub segments_from : Parts → ℕ → List Step
+segments_from s i = flat_map segment_steps (drop i s.segments) ++ end_steps
+
+-- the i-th copy from a place in it on, and what follows it
+abbrev pub copies_from : Parts → ℕ → ℕ → List Step
+copies_from s i from = copies ((span_at s i).at + from) ((span_at s i).len - from) ++ segments_from s (i + 1)
+
+-- the step at this stage
+abbrev pub step_of : Parts → Stage → Step
+step_of s Start = Makes BeginWork
+step_of s (Read i from) = Reads ((span_at s i).at + from) (copy_len s i from)
+step_of s (Append i from) = Appends (copy_len s i from)
+step_of s (Put i from) = Makes (AppendWork (part (literal_at s i) (record { at = from; len = min block (length (literal_at s i) - from) })))
+step_of s Seal = Makes SyncWork
+step_of s Install = Makes InstallMain
+step_of s Ended = Makes InstallMain
+
+-- the calls that are left
+abbrev pub left : Parts → Stage → List Step
+left s Start = Makes BeginWork ∷ segments_from s 0
+left s (Read i from) = copies_from s i from
+left s (Append i from) = Appends (copy_len s i from) ∷ copies_from s i (from + copy_len s i from)
+left s (Put i from) = appends (literal_at s i) from ++ segments_from s (i + 1)
+left s Seal = end_steps
+left s Install = Makes InstallMain ∷ []
+left s Ended = []
+
+-- a stage at which there is something to do
+abbrev pub IsStage : Parts → Stage → Type 0
+IsStage s (Read i from) = (i < length s.segments) × (from < (span_at s i).len)
+IsStage s (Append i from) = (i < length s.segments) × (from < (span_at s i).len)
+IsStage s (Put i from) = (i < length s.segments) × (from < length (literal_at s i))
+IsStage s _ = ⊤
+
+-- a stage before which nothing was read that is to be appended
+abbrev pub HoldsNothing : Stage → Type 0
+HoldsNothing (Append i from) = ⊥
+HoldsNothing _ = ⊤
+
+-- what was read is appended next
+abbrev pub IsNextStage : Stage → Stage → Type 0
+IsNextStage (Read i from) next = next ≡ Append i from
+IsNextStage _ next = HoldsNothing next
+
+-- the bytes that were read and are to be appended
+abbrev pub held_in : Parts → Stage → List ℕ → List ℕ
+held_in s (Append i from) buffer = take (copy_len s i from) buffer
+held_in s _ buffer = []
+
+-- a read has put the bytes of the file at the front of the buffer
+abbrev pub HasRead : Step → List ℕ → Disk → Type 0
+HasRead (Makes c) buffer old = ⊤
+HasRead (Reads at n) buffer old = IsTrue old.tells → take n buffer ≡ take n (drop at (bytes_of old.slots.main))
+HasRead (Appends n) buffer old = ⊤
+
+abbrev pub held_of : Rewriting → List ℕ
+held_of r = held_in r.parts r.stage r.buffer.items
+
+pub record IsRewriting (r : Rewriting) : Type 0 where
+  pub sum : AddsUp r.parts.new_len r.parts.segments
+  pub stage : IsStage r.parts r.stage
+  pub buffer : length r.buffer.items ≡ block

@@ -1,0 +1,54 @@
+-- A swap as its callers see it, and what a run of it leaves.
+use Rattle.std.specs.Prelude.{◌≡◌, ◌≢◌, ℕ, ◌+◌, ◌-◌, ◌≤◌, Bool, false, IsTrue, List, [], Result, OnOk}
+use Rattle.std.specs.declared.option.Option.TheVariants.{Some, None}
+use Rattle.part_tree.specs.declared.plan.Plan.{Plan}
+use Rattle.file_swap.specs.declared.machine.Turn.{Turn}
+use Rattle.file_swap.specs.declared.machine.Turn.TheVariants.{Fault}
+use Rattle.me_disk.specs.declared.depot.DepotFault.{DepotFault}
+use Rattle.me_disk.specs.declared.depot.WorkState.TheVariants.{Closed}
+use Rattle.me_disk.specs.Disk.{Disk, Only, Leaves, plain}
+use Rattle.me_disk.specs.Steps.{Writes, HasCause}
+use Rattle.file_swap.specs.Steps.{applied, bytes_by, bytes_written}
+use Rattle.file_swap.specs.Plans.{Belongs}
+use Rattle.file_swap.specs.Midway.{Midway, SettlesEither, held_at}
+
+-- Its plan, how many calls it has made, what it holds of the file, and whether a call has failed.
+pub record Swapping : Type 0 where
+  pub plan : Plan
+  pub made : ℕ
+  pub held : List ℕ
+  pub failed : Bool
+
+-- before the first call
+abbrev pub fresh : Plan → Swapping
+fresh p = record { plan = p; made = 0; held = []; failed = false }
+
+-- Its calls so far were made on this file: no call has failed, and where the depot tells what it holds, the plan is one for
+-- this file and the swap holds what its last call read.
+pub record Underway (s : Swapping) (o : List ℕ) (d : Disk) : Type 0 where
+  pub unfailed : s.failed ≡ false
+  pub belongs : IsTrue d.tells → Belongs s.plan o
+  pub held : IsTrue d.tells → s.held ≡ held_at s.plan o s.made
+  pub midway : Midway s.plan o s.made d
+
+-- a turn writes at most so many bytes, and exactly so many unless it answers Fault
+pub record TurnWrites (n : ℕ) (old new : Disk) (turn : Turn) : Type 0 where
+  pub least : old.written ≤ new.written
+  pub most : new.written ≤ old.written + n
+  pub exact : turn ≢ Fault → new.written ≡ old.written + n
+
+-- The file stands alone: no journal is beside it, nothing is being written, and a crash now leaves it as it is.
+pub record StandsAlone (file : List ℕ) (d : Disk) : Type 0 where
+  pub main : IsTrue d.tells → d.slots.main ≡ Some file
+  pub journal : IsTrue d.tells → d.slots.journal ≡ None
+  pub state : d.work_state ≡ Closed
+  pub only : Only (plain (Some file)) d
+
+-- A run from old to new on this file. At Ok the new file stands alone, and no `Work` is left. Each image that a crash at some
+-- moment of it might have left stands for the old file or for the new one.
+pub record Runs (s : Swapping) (o : List ℕ) (old new : Disk) (result : Result Unit DepotFault) : Type 0 where
+  pub done : OnOk result (StandsAlone (applied s.plan o) new)
+  pub work : OnOk result (IsTrue new.tells → new.slots.work ≡ None)
+  pub crash : Leaves (SettlesEither o (applied s.plan o)) old new
+  pub written : Writes (bytes_written s.plan - bytes_by s.plan s.made) old new result
+  pub cause : HasCause old new result

@@ -1,0 +1,81 @@
+// A swap, as its callers see it.
+ghost use Rattle.std.specs.Prelude.{◌≡◌, ◌≢◌, ◌+◌, ◌<◌, true, min, ℕ, List, IfOk};
+ghost use Rattle.me_disk.specs.Causes.{Rose};
+ghost use Rattle.me_disk.specs.Disk.{Leaves};
+ghost use Rattle.file_swap.specs.Steps.{calls, step_at, step_bytes};
+ghost use Rattle.file_swap.specs.Plans.{CanRun};
+ghost use Rattle.file_swap.specs.Midway.{IsNear};
+ghost use Rattle.file_swap.specs.Swap.{fresh, Underway, Runs, TurnWrites};
+
+use crate::machine::{Core, Turn};
+use me_disk::{Depot, DepotFault};
+use part_tree::{NoMemory, Plan};
+use std::alloc::Global;
+use std::marker::Model;
+
+/// A plan that is being carried out, one device call a turn.
+#[derive(Drop)]
+pub struct Swap {
+    core: Core,
+}
+
+impl Model for Swap {
+    ghost use Rattle.file_swap.specs.Swap.{Swapping};
+    ghost use Rattle.file_swap.specs.Machines.{swap_of, IsSound};
+
+    ghost Value = { Swapping };
+
+    ghost view = { λ s. swap_of s.core };
+
+    ghost invariant = { λ s. IsSound s.core };
+}
+
+impl Swap {
+    ghost use Rattle.file_swap.specs.declared.machine.Turn.{Turn};
+
+    /// Before the first call. It takes all memory that the run needs, and spends the plan.
+    pub fn new(alloc: Global, plan: Plan) -> Result<Swap, NoMemory>
+        requires { CanRun plan }
+        ensures { IfOk result (λ s. s ≡ fresh plan) }
+    {
+        Ok(Swap {
+            core: Core::new(alloc, plan)?,
+        })
+    }
+
+    /// Makes the next call of the plan's list, and none after the last. At each moment of it a crash leaves what it may leave
+    /// before the call or after it. It takes no memory.
+    pub fn turn<D: Depot>(&mut self, depot: &mut D) -> Turn
+        ghost old: { List ℕ }
+        requires { Underway self.old old (D.disk depot.old) }
+        ensures runs { CanRun self.old.plan }
+        ensures plan { self.new.plan ≡ self.old.plan }
+        ensures made { result ≢ Turn.Fault → self.new.made ≡ min (self.old.made + 1) (calls self.old.plan) }
+        ensures more { result ≡ Turn.More → self.new.made < calls self.old.plan }
+        ensures done { result ≡ Turn.Done → self.new.made ≡ calls self.old.plan }
+        ensures underway { result ≢ Turn.Fault → Underway self.new old (D.disk depot.new) }
+        ensures fault { result ≡ Turn.Fault → self.new ≡ record self.old { failed = true } }
+        ensures crash { Leaves (IsNear self.old.plan old self.old.made) (D.disk depot.old) (D.disk depot.new) }
+        ensures written { TurnWrites (step_bytes (step_at self.old.plan self.old.made)) (D.disk depot.old) (D.disk depot.new) result }
+        ensures cause { result ≡ Turn.Fault → Rose (D.disk depot.old).faults (D.disk depot.new).faults }
+        ensures idle { self.old.made ≡ calls self.old.plan → (result ≡ Turn.Done) × (depot.new ≡ depot.old) }
+    {
+        self.core.turn(depot)
+    }
+
+    /// Makes all the calls that are left. At each moment of it a crash leaves what stands for the old file or for the new
+    /// one; at Ok the new file stands alone. It takes no memory.
+    pub fn run<D: Depot>(mut self, depot: &mut D) -> Result<(), DepotFault>
+        ghost old: { List ℕ }
+        requires { Underway self old (D.disk depot.old) }
+        ensures { Runs self old (D.disk depot.old) (D.disk depot.new) result }
+    {
+        loop {
+            match self.turn(depot) {
+                Turn::More => {}
+                Turn::Done => return Ok(()),
+                Turn::Fault => return Err(DepotFault),
+            }
+        }
+    }
+}
