@@ -20,3 +20,4 @@ pub mod Steps
 pub mod Windows
 pub mod Rows
 pub mod Walk
+pub mod Cuts

@@ -1,10 +1,10 @@
 -- A table whose numbers are changed has as many bytes, the changed numbers, and the same bytes behind them.
-use Rattle.std.proofs.Common.{◌≡◌, ℕ, zero, suc, ◌+◌, ◌*◌, ◌^◌, ◌<◌, ◌≤◌, Bool, true, false, ltb, List, ◌∷◌, ◌++◌, length, map, take, drop, refl, sym, ap, ◌∙◌, arith}
+use Rattle.std.proofs.Common.{◌≡◌, ℕ, zero, suc, ◌+◌, ◌*◌, ◌^◌, ◌<◌, ◌≤◌, Bool, true, false, ltb, List, ◌∷◌, ◌++◌, length, map, take, drop, refl, sym, ap, ◌∙◌, append_assoc, arith}
 use Rattle.std.specs.List.{AllByRecursion}
 use Rattle.std.proofs.lemmas.Bool.{ltb-false, le-ltb}
 use Rattle.std.proofs.lemmas.Nat.{be_bytes_4, be_bytes_8, from_be_bytes-to_be_bytes_4, from_be_bytes-to_be_bytes_8, le_bytes_2, le_bytes_4, le_bytes_8, from_le_bytes-to_le_bytes_2, from_le_bytes-to_le_bytes_4, from_le_bytes-to_le_bytes_8}
 use Rattle.std.proofs.lemmas.List.{length-append, length-take, length-drop, take_at, drop_at, take-append-drop, drop-drop}
-use Rattle.container_model.specs.Rows.{Width, le16, le32, le64, be32, be64, numbers, changed_by, changed, field, with_field}
+use Rattle.container_model.specs.Rows.{Width, le16, le32, le64, be32, be64, numbers, spelled, changed_by, changed, field, with_field}
 use Rattle.container_model.proofs.Codec.{IsBytes, IsBytes-drop}
 use Rattle.container_model.proofs.Fronts.{IsBytes-take}
 
@@ -66,6 +66,24 @@ module _ (w : Width) (bound : ℕ) (sp : Spells w bound) (f : ℕ → ℕ) where
       let again = changed_numbers k (drop w.bytes b) (omega (arith, step, length-drop w.bytes b)) h.1 in
       let one : numbers w (suc k) (w.put n ++ x) ≡ n ∷ map f (numbers w k (drop w.bytes b)) = rw (take_at (w.put n) x w.bytes (sp.put_len n), drop_at (w.put n) x w.bytes (sp.put_len n), sp.get_put n h.0, again) refl in
       ap (λ (t : Bool). numbers w (suc k) (changed_by w f b x t)) long ∙ one
+
+  -- the changed numbers are spelled, and the bytes behind them follow
+  pub changed_spelled : (k : ℕ) (b : List ℕ) → w.bytes * k ≤ length b → changed w f k b ≡ spelled w (map f (numbers w k b)) ++ drop (w.bytes * k) b
+  changed_spelled zero b le = let z : w.bytes * 0 ≡ 0 = omega arith in rw z refl
+  changed_spelled (suc k) b le =
+      let step : w.bytes * suc k ≡ w.bytes + w.bytes * k = omega arith in
+      let n = w.put (f (w.get (take w.bytes b))) in
+      let ns = spelled w (map f (numbers w k (drop w.bytes b))) in
+      let long : ltb (length b) w.bytes ≡ false = le-ltb _ _ (omega (arith, step)) in
+      let again = changed_spelled k (drop w.bytes b) (omega (arith, step, length-drop w.bytes b)) in
+      ap (changed_by w f b (changed w f k (drop w.bytes b))) long ∙ ap (λ (x : List ℕ). n ++ x) again ∙ sym (append_assoc n ns (drop (w.bytes * k) (drop w.bytes b)))
+      ∙ ap (λ (x : List ℕ). (n ++ ns) ++ x) (drop-drop (w.bytes * k) w.bytes b ∙ ap (λ (j : ℕ). drop j b) (sym step))
+
+  pub spelled_len : (k : ℕ) (b : List ℕ) → length (spelled w (map f (numbers w k b))) ≡ w.bytes * k
+  spelled_len zero b = omega arith
+  spelled_len (suc k) b =
+      let step : w.bytes * suc k ≡ w.bytes + w.bytes * k = omega arith in
+      omega (arith, step, sp.put_len (f (w.get (take w.bytes b))), spelled_len k (drop w.bytes b), length-append (w.put (f (w.get (take w.bytes b)))) (spelled w (map f (numbers w k (drop w.bytes b)))))
 
   -- where no number changes, no byte does
   pub changed_none : ((p : ℕ) → f p ≡ p) → (k : ℕ) (b : List ℕ) → IsBytes b → changed w f k b ≡ b

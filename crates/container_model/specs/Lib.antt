@@ -9,3 +9,4 @@ pub mod Stood
 pub mod Windows
 pub mod Rows
 pub mod Walk
+pub mod Cuts

@@ -39,6 +39,11 @@ abbrev pub changed : Width → (ℕ → ℕ) → ℕ → List ℕ → List ℕ
 changed w f zero b = b
 changed w f (suc k) b = changed_by w f b (changed w f k (drop w.bytes b)) (nat_lt (length b) w.bytes)
 
+-- the numbers one after the other
+abbrev pub spelled : Width → List ℕ → List ℕ
+spelled w [] = []
+spelled w (n ∷ ns) = w.put n ++ spelled w ns
+
 -- ---- a number in a longer row
 
 -- the number at a place of a row, and the row with another number there

@@ -349,3 +349,7 @@ kids_are cs h =
 pub are_kids : (cs : List Chunk) → KidsAre (solids is_padding cs) → KidsFine false cs
 are_kids cs h =
     ok_fine false cs (solid_ok cs (kids_to (solids is_padding cs) h.not_refused h.whole h.tracks)) (λ e. all_strip UserOk (λ c x. x) (first_user cs) (subst (AllByRecursion UserOk) (first_solid cs) h.user))
+
+-- each of them is fine
+pub kids_ok : (cs : List Chunk) → KidsAre (solids is_padding cs) → AllByRecursion KidOk cs
+kids_ok cs h = solid_ok cs (kids_to (solids is_padding cs) h.not_refused h.whole h.tracks)

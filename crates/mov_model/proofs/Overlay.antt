@@ -8,6 +8,7 @@ use Rattle.part_tree.specs.declared.field.Value.{Value}
 use Rattle.container_model.proofs.Deep.{Alike, alike_len}
 use Rattle.container_model.proofs.Units.{BringsPad, spell_all-append}
 use Rattle.container_model.specs.Chunk.{Chunk, spell, spell_all}
+use Rattle.container_model.specs.Cuts.{changed_piece}
 use Rattle.container_model.specs.Items.{Item, edit_carrier, put_all}
 use Rattle.container_model.specs.Units.{Cell, Piece, Slot, begun, closed, copied, cuts, edited, gap, is_empty, kept, kept_next, lacks_pad, lay, old_bytes, padded, replaced, shut, unit_bytes, units, was}
 use Rattle.mov_model.proofs.Laid.{LastOnly}
@@ -16,20 +17,15 @@ use Rattle.mov_model.specs.Movie.{add_last, add_new, carried, carry_by, ends_ope
 use Rattle.mov_model.specs.User.{udta, user_items}
 
 module _ (g : Chunk → Chunk) where
-  -- pieces whose copied chunks are changed
-  abbrev pub changed_piece : Piece → Piece
-  changed_piece (copied c) = copied (g c)
-  changed_piece (replaced lead slot now last) = replaced lead slot now last
-
   -- copied chunks keep their length, and nothing in a unit is changed
   abbrev pub Fixed : List Piece → Type 0
   Fixed [] = Unit {0}
   Fixed (copied c ∷ ps) = Alike c (g c) × Fixed ps
   Fixed (replaced lead slot now last ∷ ps) = (lead ≡ []) × (map g now ≡ now) × Fixed ps
 
-  pub changed_cuts : (f : Bool) (at : ℕ) (ps : List Piece) → Fixed ps → cuts (fill f) at (map changed_piece ps) ≡ cuts (fill f) at ps
+  pub changed_cuts : (f : Bool) (at : ℕ) (ps : List Piece) → Fixed ps → cuts (fill f) at (map (changed_piece g) ps) ≡ cuts (fill f) at ps
   changed_cuts f at [] h = refl
-  changed_cuts f at (copied c ∷ ps) h = ap (λ (n : ℕ). cuts (fill f) (at + n) (map changed_piece ps)) (alike_len c (g c) h.0) ∙ changed_cuts f (at + length (spell c)) ps h.1
+  changed_cuts f at (copied c ∷ ps) h = ap (λ (n : ℕ). cuts (fill f) (at + n) (map (changed_piece g) ps)) (alike_len c (g c) h.0) ∙ changed_cuts f (at + length (spell c)) ps h.1
   changed_cuts f at (replaced lead slot now last ∷ ps) h = ap (λ (x : List _). Rattle.container_model.specs.Units.cut_of (fill f) at lead slot now last ∷ x) (changed_cuts f (at + length (spell_all lead ++ slot)) ps h.2)
 
   map-chunks : (a b : List Chunk) → map g (a ++ b) ≡ map g a ++ map g b
@@ -48,7 +44,7 @@ module _ (g : Chunk → Chunk) where
         go true = refl
         go false = one (Rattle.std.proofs.Common.leb (length slot) s) _
 
-    pub changed_lay : (f : Bool) (ps : List Piece) → Fixed ps → lay (fill f) (map changed_piece ps) ≡ map g (lay (fill f) ps)
+    pub changed_lay : (f : Bool) (ps : List Piece) → Fixed ps → lay (fill f) (map (changed_piece g) ps) ≡ map g (lay (fill f) ps)
     changed_lay f [] h = refl
     changed_lay f (copied c ∷ ps) h = ap (λ (x : List Chunk). g c ∷ x) (changed_lay f ps h.1)
     changed_lay f (replaced lead slot now last ∷ ps) h =
@@ -57,7 +53,7 @@ module _ (g : Chunk → Chunk) where
         = ap (λ (x : List Chunk). map g (map padded x ++ (now ++ p))) h.0 ∙ map-chunks now p ∙ rw (h.1, fill_fixed f last slot (length (unit_bytes lead now))) (ap (λ (x : List Chunk). map padded x ++ (now ++ p)) (sym h.0)) in
         sym (map-chunks (map padded lead ++ (now ++ p)) (lay (fill f) ps) ∙ ap (λ (x : List Chunk). x ++ map g (lay (fill f) ps)) one ∙ ap (λ (x : List Chunk). (map padded lead ++ (now ++ p)) ++ x) (sym (changed_lay f ps h.2)))
 
-  pub changed_grown : (more : List ℕ) (ps : List Piece) → map changed_piece (grown more ps) ≡ grown more (map changed_piece ps)
+  pub changed_grown : (more : List ℕ) (ps : List Piece) → map (changed_piece g) (grown more ps) ≡ grown more (map (changed_piece g) ps)
   changed_grown more [] = refl
   changed_grown more (copied c ∷ ps) = ap (λ (x : List Piece). copied (g c) ∷ x) (changed_grown more ps)
   changed_grown more (replaced lead slot now true ∷ ps) = refl
@@ -69,22 +65,22 @@ module _ (g : Chunk → Chunk) where
   grown_fixed more (replaced lead slot now true ∷ ps) h = h
   grown_fixed more (replaced lead slot now false ∷ ps) h = (h.0, h.1, grown_fixed more ps h.2)
 
-  pub changed_brings : (ps : List Piece) → BringsPad ps → BringsPad (map changed_piece ps)
+  pub changed_brings : (ps : List Piece) → BringsPad ps → BringsPad (map (changed_piece g) ps)
   changed_brings [] h = tt
   changed_brings (copied c ∷ ps) h = changed_brings ps h
   changed_brings (replaced lead slot now last ∷ ps) h = (h.0, changed_brings ps h.1)
 
-  pub changed_last : (ps : List Piece) → LastOnly ps → LastOnly (map changed_piece ps)
+  pub changed_last : (ps : List Piece) → LastOnly ps → LastOnly (map (changed_piece g) ps)
   changed_last [] h = tt
   changed_last (copied c ∷ ps) h = changed_last ps h
-  changed_last (replaced lead slot now last ∷ ps) h = (λ e. ap (map changed_piece) (h.0 e), changed_last ps h.1)
+  changed_last (replaced lead slot now last ∷ ps) h = (λ e. ap (map (changed_piece g)) (h.0 e), changed_last ps h.1)
 
-  pub changed_open : (ps : List Piece) → ends_open (map changed_piece ps) ≡ ends_open ps
+  pub changed_open : (ps : List Piece) → ends_open (map (changed_piece g) ps) ≡ ends_open ps
   changed_open [] = refl
   changed_open (copied c ∷ ps) = changed_open ps
   changed_open (replaced lead slot now last ∷ ps) = ap (λ (t : Bool). last || t) (changed_open ps)
 
-  pub changed_hanging : (f : Bool) (ps : List Piece) → hanging (fill f) (map changed_piece ps) ≡ hanging (fill f) ps
+  pub changed_hanging : (f : Bool) (ps : List Piece) → hanging (fill f) (map (changed_piece g) ps) ≡ hanging (fill f) ps
   changed_hanging f [] = refl
   changed_hanging f (copied c ∷ ps) = changed_hanging f ps
   changed_hanging f (replaced lead slot now true ∷ ps) = refl
@@ -127,25 +123,25 @@ module _ (g : Chunk → Chunk) where
   slot_bytes shut = []
   slot_bytes (begun lead slot now) = spell_all lead ++ slot
 
-  old_closed : (last : Bool) (s : Slot) → flat_map old_bytes (map changed_piece (closed last s)) ≡ slot_bytes s
+  old_closed : (last : Bool) (s : Slot) → flat_map old_bytes (map (changed_piece g) (closed last s)) ≡ slot_bytes s
   old_closed last shut = refl
   old_closed last (begun lead slot now) = append-nil (spell_all lead ++ slot)
 
-  map-pieces : (a b : List Piece) → map changed_piece (a ++ b) ≡ map changed_piece a ++ map changed_piece b
+  map-pieces : (a b : List Piece) → map (changed_piece g) (a ++ b) ≡ map (changed_piece g) a ++ map (changed_piece g) b
   map-pieces [] b = refl
-  map-pieces (p ∷ a) b = ap (λ (x : List Piece). changed_piece p ∷ x) (map-pieces a b)
+  map-pieces (p ∷ a) b = ap (λ (x : List Piece). changed_piece g p ∷ x) (map-pieces a b)
 
-  old_next : (t end : Bool) (c : Chunk) (more : Slot → List Piece) (b : List ℕ) → t ≡ false → flat_map old_bytes (map changed_piece (more shut)) ≡ b → flat_map old_bytes (map changed_piece (kept_next (t && end) c more)) ≡ spell (g c) ++ b
+  old_next : (t end : Bool) (c : Chunk) (more : Slot → List Piece) (b : List ℕ) → t ≡ false → flat_map old_bytes (map (changed_piece g) (more shut)) ≡ b → flat_map old_bytes (map (changed_piece g) (kept_next (t && end) c more)) ≡ spell (g c) ++ b
   old_next true end c more b e h = absurd cc
   old_next false end c more b e h = ap (λ (x : List ℕ). spell (g c) ++ x) h
 
   -- the changed pieces make up the changed chunks
-  pub changed_old : (s : Slot) (xs : List Cell) → FixedCells xs → flat_map old_bytes (map changed_piece (units s xs)) ≡ slot_bytes s ++ spell_all (map g (flat_map was xs))
+  pub changed_old : (s : Slot) (xs : List Cell) → FixedCells xs → flat_map old_bytes (map (changed_piece g) (units s xs)) ≡ slot_bytes s ++ spell_all (map g (flat_map was xs))
   unfolding units
   changed_old s [] f = old_closed true s ∙ sym (append-nil (slot_bytes s))
   changed_old s (kept c ∷ xs) f =
       let next = kept_next (lacks_pad c && not (is_empty xs)) c (λ t. units t xs) in
-      ap (flat_map old_bytes) (map-pieces (closed false s) next) ∙ flat_map-append old_bytes (map changed_piece (closed false s)) (map changed_piece next)
+      ap (flat_map old_bytes) (map-pieces (closed false s) next) ∙ flat_map-append old_bytes (map (changed_piece g) (closed false s)) (map (changed_piece g) next)
       ∙ rw (old_closed false s, old_next (lacks_pad c) (not (is_empty xs)) c (λ t. units t xs) _ f.0 (changed_old shut xs f.2)) refl
   changed_old shut (gap c ∷ xs) f = old_next (lacks_pad c) (not (is_empty xs)) c (λ t. units t xs) _ f.0 (changed_old shut xs f.2)
   changed_old (begun lead slot now) (gap c ∷ xs) f =

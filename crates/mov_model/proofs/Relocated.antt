@@ -11,6 +11,7 @@ use Rattle.container_model.proofs.Read.{Atom}
 use Rattle.container_model.proofs.Units.{From, cuts_from, lay_splices, spell_all-append, splice_past}
 use Rattle.container_model.specs.Chunk.{Chunk, header_bytes, spell_all}
 use Rattle.container_model.specs.Deep.{Whole}
+use Rattle.container_model.specs.Cuts.{changed_piece}
 use Rattle.container_model.specs.Items.{Item, is_nil}
 use Rattle.container_model.specs.Sizes.{inside}
 use Rattle.container_model.specs.Splice.{Cut, shift, splice, splice_from}
@@ -20,7 +21,7 @@ use Rattle.mov_model.proofs.Cells.{was_carried, was_read}
 use Rattle.mov_model.proofs.Clauses.{behind_split, header_len, opened_last, whole_brings}
 use Rattle.mov_model.proofs.Held.{held_bytes}
 use Rattle.mov_model.proofs.Laid.{grown_bytes, grown_laid}
-use Rattle.mov_model.proofs.Overlay.{Fixed, changed_brings, changed_cuts, changed_grown, changed_hanging, changed_last, changed_lay, changed_old, changed_open, changed_piece, fixed_carried, fixed_units, grown_fixed}
+use Rattle.mov_model.proofs.Overlay.{Fixed, changed_brings, changed_cuts, changed_grown, changed_hanging, changed_last, changed_lay, changed_old, changed_open, fixed_carried, fixed_units, grown_fixed}
 use Rattle.mov_model.proofs.Spans.{around, last, open_left}
 use Rattle.mov_model.proofs.Tables.{relocated_alike, relocated_other}
 use Rattle.mov_model.specs.Atoms.{atom, atoms_in, cell_of, format, moov}
@@ -32,10 +33,10 @@ use Rattle.mov_model.specs.User.{udta, user_items}
 
 module _ (m : Movie) (e : List (Item Value)) (joined : spell_all (atoms_in m.movie).chunks ++ (atoms_in m.movie).left ≡ m.movie.body) (no_pad : m.movie.pad ≡ [])
     (fine : AllByRecursion (λ c. (lacks_pad c ≡ false) × Alike c (relocated (shift (edit_cuts m e)) c)) (atoms_in m.movie).chunks) where
-  abbrev g : Chunk → Chunk
+  abbrev pub g : Chunk → Chunk
   g = relocated (shift (edit_cuts m e))
 
-  abbrev left : List ℕ
+  abbrev pub left : List ℕ
   left = (atoms_in m.movie).left
 
   abbrev ps : List Piece
@@ -60,7 +61,7 @@ module _ (m : Movie) (e : List (Item Value)) (joined : spell_all (atoms_in m.mov
   lay_is : (f : Bool) → lay (fill f) (map (changed_piece g) ps) ≡ map g (lay (fill f) ps)
   lay_is f = changed_lay g (λ body. relocated_other (shift (edit_cuts m e)) (atom (codes "free") body) refl) f ps fixed
 
-  abbrev behind_pieces : List ℕ
+  abbrev pub behind_pieces : List ℕ
   behind_pieces = cond (is_open m e) [] left ++ (spell_all (rest_behind m e) ++ m.left)
 
   ends : is_open m e ≡ true → ends_open (map (changed_piece g) ps) ≡ true
@@ -89,7 +90,7 @@ module _ (m : Movie) (e : List (Item Value)) (joined : spell_all (atoms_in m.mov
           ∙ ap (λ (x : List ℕ). x ++ ([] ++ (c ++ m.left))) (sym grown_is)
       go false o = append_assoc (spell_all (map g (atoms_in m.movie).chunks)) left (spell_all (rest_behind m e) ++ m.left) ∙ ap (λ (x : List ℕ). x ++ (left ++ (spell_all (rest_behind m e) ++ m.left))) (sym kept_are)
 
-  new_inner : spell_all (lay (fill (ends_file m e)) (map (changed_piece g) (whole_pieces m e))) ++ behind_pieces ≡ (spell_all (new_kids m e) ++ left) ++ (spell_all (padding_behind m e ++ rest_behind m e) ++ m.left)
+  pub new_inner : spell_all (lay (fill (ends_file m e)) (map (changed_piece g) (whole_pieces m e))) ++ behind_pieces ≡ (spell_all (new_kids m e) ++ left) ++ (spell_all (padding_behind m e ++ rest_behind m e) ++ m.left)
   new_inner = go (is_open m e) refl
     where
       shuffle : (a b c d : List ℕ) → (a ++ b) ++ ([] ++ (c ++ d)) ≡ (a ++ []) ++ ((b ++ c) ++ d)
@@ -153,7 +154,7 @@ module _ (m : Movie) (e : List (Item Value)) (joined : spell_all (atoms_in m.mov
 
 -- ---- of a supported file
 
-kids_all : (f : ℕ → ℕ) (cs : List Chunk) → AllByRecursion (Atom inside) cs → AllByRecursion (Whole format 5 moov) cs → AllByRecursion (λ c. IsBytes c.body) cs → AllByRecursion (λ c. (lacks_pad c ≡ false) × Alike c (relocated f c)) cs
+pub kids_all : (f : ℕ → ℕ) (cs : List Chunk) → AllByRecursion (Atom inside) cs → AllByRecursion (Whole format 5 moov) cs → AllByRecursion (λ c. IsBytes c.body) cs → AllByRecursion (λ c. (lacks_pad c ≡ false) × Alike c (relocated f c)) cs
 kids_all f [] a w b = tt
 kids_all f (c ∷ cs) a w b = ((le-ltb _ _ (omega (arith, a.0.pad_none)), relocated_alike f c w.0 b.0), kids_all f cs a.1 w.1 b.1)
 

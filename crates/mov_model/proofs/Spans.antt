@@ -22,7 +22,7 @@ nil_is [] e = refl
 nil_is (y ∷ x) e = absurd cc
 
 module _ (m : Movie) (e : List (Item Value)) (joined : spell_all (atoms_in m.movie).chunks ++ (atoms_in m.movie).left ≡ m.movie.body) (no_pad : m.movie.pad ≡ []) where
-  abbrev left : List ℕ
+  abbrev pub left : List ℕ
   left = (atoms_in m.movie).left
 
   kept_are : flat_map old_bytes (pieces_of m e) ≡ spell_all (atoms_in m.movie).chunks
@@ -31,7 +31,7 @@ module _ (m : Movie) (e : List (Item Value)) (joined : spell_all (atoms_in m.mov
       units_old shut (carried udta user_items e xs) ∙ ap spell_all (was_carried e xs ∙ was_read (atoms_in m.movie).chunks)
 
   -- what stands behind the pieces
-  abbrev behind_pieces : List ℕ
+  abbrev pub behind_pieces : List ℕ
   behind_pieces = cond (is_open m e) [] left ++ (spell_all (rest_behind m e) ++ m.left)
 
   pub last : Rattle.mov_model.proofs.Laid.LastOnly (pieces_of m e)
@@ -40,7 +40,7 @@ module _ (m : Movie) (e : List (Item Value)) (joined : spell_all (atoms_in m.mov
   pub open_left : is_open m e ≡ true → left ≡ []
   open_left o = nil_is left (and_parts (is_nil left) (Rattle.mov_model.specs.Movie.ends_open (pieces_of m e)) o).0
 
-  old_inner : m.movie.body ++ (spell_all m.behind ++ m.left) ≡ flat_map old_bytes (whole_pieces m e) ++ behind_pieces
+  pub old_inner : m.movie.body ++ (spell_all m.behind ++ m.left) ≡ flat_map old_bytes (whole_pieces m e) ++ behind_pieces
   old_inner = ap (λ (cs : List Chunk). m.movie.body ++ (spell_all cs ++ m.left)) (sym (behind_split m e)) ∙ ap (λ (x : List ℕ). x ++ (spell_all (slot_behind m e ++ rest_behind m e) ++ m.left)) (sym joined) ∙ go (is_open m e) refl
     where
       go : (t : Bool) → is_open m e ≡ t

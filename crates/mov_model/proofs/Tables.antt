@@ -140,7 +140,7 @@ module _ (f : ℕ → ℕ) where
       go (is_co64 e) = rw (body_eight c e, e) (blank_same be64 (2 ^ 64) be64_spells f c)
       go (is_other e i) = rw (body_other c e i) refl
 
-  keeps : (p : Place) (c : Chunk) → length (moved_leaf f p c) ≡ length c.body
+  pub keeps : (p : Place) (c : Chunk) → length (moved_leaf f p c) ≡ length c.body
   keeps file c = refl
   keeps user_data c = refl
   keeps moov c = refl

@@ -237,6 +237,12 @@ module _ (b : List ℕ) where
   or_parts true b e = absurd cc
   or_parts false b e = (refl, e)
 
+  -- what is asked of the atoms of moov
+  pub kids_supported : Supported b → KidsAre (parts m)
+  kids_supported s =
+      let t = tracks_to (all_atoms m) (tracks m) s.movie.tracks in
+      record { not_refused = s.movie.not_refused; whole = s.movie.tracks_end; tracks = t.0; user = user_to (first_user (parts m)) s.movie.user_ends s.movie.user_small }
+
   pub supported_none : Supported b → why b ≡ None
   supported_none s =
       let whole = split_whole cs (top_run b).left s.has_moov in
@@ -246,7 +252,7 @@ module _ (b : List ℕ) where
       let few : length cs + atoms_met kid_steps_now ≤ 65536 = omega (arith, s.movie.few_parts, count_kids, ap (length {A = Chunk}) whole.0) in
       let file_tests = good_file cs 0 [] (omega (arith, few)) (fine_split cs (top_run b).left s.has_moov top) in
       let t = tracks_to (all_atoms m) (tracks m) s.movie.tracks in
-      let are : KidsAre (parts m) = record { not_refused = s.movie.not_refused; whole = s.movie.tracks_end; tracks = t.0; user = user_to (first_user (parts m)) s.movie.user_ends s.movie.user_small } in
+      let are = kids_supported s in
       let kid_tests = good_kids kids false (inside_at m) met no_user (omega (arith, few, count_met)) (are_kids kids are) in
       let e = bad_none (top_run b).stop s.atoms_end in
       let i = bad_none (atoms_in m.movie).stop s.movie.atoms_end in

@@ -3,11 +3,11 @@
 
 ghost use Rattle.std.specs.Prelude.{◌≡◌, ℕ, List, ◌++◌, length, take, drop, Some, None};
 ghost use Rattle.me_bytes.specs.Bytes.{IsBytes};
-ghost use Rattle.container_model.specs.Splice.{splice};
+ghost use Rattle.container_model.specs.Splice.{Ascend, splice};
 ghost use Rattle.container_model.specs.Items.{Item};
 ghost use Rattle.part_tree.specs.declared.field.Value.{Value};
 ghost use Rattle.mov_model.specs.Movie.{edited_file, movie_of, new_movie, laid_movie, overlaid, spell_movie, edit_cuts, with_size, all_atoms};
-ghost use Rattle.mov_model.specs.Edited.{AreNamed, Edited, fields, new_file};
+ghost use Rattle.mov_model.specs.Edited.{AreNamed, Edited, changes, fields, new_file};
 ghost use Rattle.mov_model.specs.Support.{Supported};
 ghost use Rattle.mov_model.specs.Pieces.{held};
 ghost use Rattle.mov_model.specs.Why.{why};
@@ -15,6 +15,7 @@ ghost use Rattle.part_tree.specs.declared.field.EditItem.{EditItem};
 ghost use Rattle.part_tree.specs.declared.field.RuleSet.TheVariants.{Base};
 ghost use Rattle.part_tree.specs.declared.names.Kind.TheVariants.{Mov};
 ghost use Rattle.field_model.specs.Broken.{broken};
+ghost use Rattle.mov_model.specs.Cuts.{all_cuts};
 ghost use Rattle.mov_model.specs.Large.{too_large};
 
 /// For every supported movie and every edit of fields that keeps the rules of Base, and after which nothing is too large,
@@ -44,4 +45,11 @@ pub fn held_are_bytes()
 /// A movie is supported exactly where no test of the reading order holds.
 pub fn refusals_are_exact()
     ensures { (b : List ℕ) → (why b ≡ None → Supported b) × (Supported b → why b ≡ None) }
+{}
+
+/// The new file is the old one with these spans replaced: the header of `moov`, the rows of its tables and the slots of
+/// units. The spans ascend and lie in the old file.
+pub fn new_is_spliced()
+    ensures spliced { (o : List ℕ) (e : List EditItem) → IsBytes o → Supported o → new_file o e ≡ splice o (all_cuts (movie_of o) (changes o e)) }
+    ensures ascend { (o : List ℕ) (e : List EditItem) → IsBytes o → Supported o → Ascend 0 (all_cuts (movie_of o) (changes o e)) (length o) }
 {}
