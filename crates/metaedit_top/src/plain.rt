@@ -89,10 +89,7 @@ fn read_sound<D: Depot>(depot: &mut D, len: u64) -> Result<Option<u64>, DepotFau
 }
 
 // The next chunk. None where no whole chunk follows.
-fn next_chunk<D: Depot>(
-    depot: &mut D,
-    walker: &mut Walker,
-) -> Result<Option<ChunkAt>, DepotFault>
+fn next_chunk<D: Depot>(depot: &mut D, walker: &mut Walker) -> Result<Option<ChunkAt>, DepotFault>
     requires { Inside walker.old.end (D.disk depot.old) }
     ensures next { (b : List ℕ) → Holds (D.disk depot.old) b → IfOk result (λ found. NextIs b walker.old.at walker.old.end found) }
     ensures order { IfOk result (λ found. IfSome found (λ chunk. InOrder walker.old.at walker.old.end chunk)) }
