@@ -1,0 +1,188 @@
+//! The items of a `LIST` of type `INFO` (Multimedia Programming Interface and Data Specifications 1.0, "INFO list chunk"),
+//! read from a body and spelled as a list. It knows no name of a field.
+#![tactic(auto)]
+
+ghost use Rattle.std.specs.Prelude.{◌≡◌, ℕ, List, IfErr, IfOk, length, ◌<◌, ◌^◌, ◌≤◌, take, drop, ◌++◌, OnOk, OnErr};
+ghost use Rattle.container_model.specs.Chunk.{spell};
+ghost use Rattle.info_list.specs.declared.InfoList.{InfoList};
+ghost use Rattle.info_list.specs.Info.{IsInfo, IsSpellable, IsWithin, ReadsInfo, inner, item_bytes, list_chunk, pad_of};
+
+use me_bytes::put_le32;
+use part_tree::{Bytes, FourCc, NoMemory};
+use riff_form::Walker;
+use std::alloc::Global;
+use std::marker::Model;
+
+/// An item: its identifier and its body, without its pad.
+#[derive(Debug, Drop)]
+pub struct InfoItem {
+    pub id: FourCc,
+    pub raw: Bytes,
+}
+
+/// Items, seen as the list of them.
+#[derive(Debug, Drop)]
+pub struct InfoItems {
+    held: Vec<InfoItem>,
+}
+
+impl Model for InfoItems {
+    ghost use Rattle.std.specs.Prelude.{List};
+    ghost use Rattle.info_list.specs.declared.InfoItem.{InfoItem};
+
+    ghost Value = { List InfoItem };
+
+    ghost view = { λ i. i.held.items };
+}
+
+impl InfoItems {
+    /// These items, without taking memory.
+    pub fn new(items: Vec<InfoItem>) -> InfoItems
+        ensures { result ≡ items.items }
+    {
+        InfoItems { held: items }
+    }
+
+    pub fn as_slice(&self) -> &[InfoItem]
+        ensures { result.now ≡ self.now }
+    {
+        &self.held
+    }
+}
+
+/// The items of a list in their order, and the bytes behind them that are no item.
+#[derive(Debug, Drop)]
+pub struct InfoList {
+    pub items: InfoItems,
+    pub rest: Bytes,
+}
+
+/// Why a list isn't read. `at` is a place in the body behind the word `INFO`.
+#[derive(Clone, Copy, Debug, PartialEq, Eq)]
+pub enum InfoFault {
+    /// The item at `at` ends past the body.
+    Truncated { at: u64 },
+    Memory,
+}
+
+/// Reads the items behind the word `INFO`. `Truncated` exactly where an item ends past the body.
+pub fn read_info(alloc: Global, body: &[u8]) -> Result<InfoList, InfoFault>
+    ensures list { ReadsInfo body.now result }
+    ensures place { IfErr result (λ fault. IsWithin fault (length body.now)) }
+{
+    let mut items = Vec::new(alloc);
+    let mut walker = Walker::new(0, body.len() as u64);
+    loop {
+        let chunk = match walker.step_in(body) {
+            Err(fault) => return Err(InfoFault::Truncated { at: fault.at }),
+            Ok(None) => break,
+            Ok(Some(chunk)) => chunk,
+        };
+        let start = chunk.body.at as usize;
+        let raw = match Bytes::new(alloc, &body[start..start + chunk.body.len as usize]) {
+            Err(_) => return Err(InfoFault::Memory),
+            Ok(raw) => raw,
+        };
+        match items.push(InfoItem { id: chunk.id, raw }) {
+            Err(_) => return Err(InfoFault::Memory),
+            Ok(()) => {}
+        }
+    }
+    match Bytes::new(alloc, &body[walker.at as usize..]) {
+        Err(_) => Err(InfoFault::Memory),
+        Ok(rest) => Ok(InfoList {
+            items: InfoItems::new(items),
+            rest,
+        }),
+    }
+}
+
+/// The whole chunk `LIST` of these items and this rest; each pad is 0.
+pub fn spell_info(alloc: Global, list: &InfoList) -> Result<Bytes, NoMemory>
+    requires { IsSpellable list.now }
+    ensures { IfOk result (λ bytes. bytes ≡ spell (list_chunk list.now)) }
+{
+    let body = list_body(alloc, list)?;
+    let mut out = Vec::new(alloc);
+    out.extend_from_slice(b"LIST")?;
+    put_le32(alloc, &mut out, body.len() as u32)?;
+    out.extend_from_slice(&body)?;
+    put_pad(alloc, &mut out, body.len())?;
+    Ok(Bytes::of(out))
+}
+
+// The body: the word `INFO`, the items and the rest.
+fn list_body(alloc: Global, list: &InfoList) -> Result<Vec<u8>, NoMemory>
+    requires { IsSpellable list.now }
+    ensures { IfOk result (λ body. body.items ≡ (list_chunk list.now).body) }
+{
+    let mut body = Vec::new(alloc);
+    body.extend_from_slice(b"INFO")?;
+    for item in list.items.as_slice() {
+        put_item(alloc, &mut body, item)?;
+    }
+    body.extend_from_slice(list.rest.as_slice())?;
+    Ok(body)
+}
+
+// Appends the spelling of an item.
+fn put_item(alloc: Global, out: &mut Vec<u8>, item: &InfoItem) -> Result<(), NoMemory>
+    requires { length item.now.raw < 2 ^ 32 }
+    ensures { OnOk result (out.new.items ≡ out.old.items ++ item_bytes item.now) }
+{
+    let raw = item.raw.as_slice();
+    out.extend_from_slice(&item.id.0)?;
+    put_le32(alloc, out, raw.len() as u32)?;
+    out.extend_from_slice(raw)?;
+    put_pad(alloc, out, raw.len())
+}
+
+// Appends a 0 behind an odd number of bytes.
+fn put_pad(_alloc: Global, out: &mut Vec<u8>, len: usize) -> Result<(), NoMemory>
+    ensures { OnOk result (out.new.items ≡ out.old.items ++ pad_of len) }
+{
+    if len % 2 == 1 {
+        out.extend_from_slice(&[0])?;
+    }
+    Ok(())
+}
+
+/// What is spelled is read back: behind the word `INFO` of the spelling stand the items and the rest, whatever these are.
+pub fn spelled_is_read()
+    ensures { (list : InfoList) → IsSpellable list → IsInfo (inner list) list }
+{}
+
+#[cfg(test)]
+mod tests {
+    use super::*;
+    use std::test::Fail;
+
+    // Two items with one name, the first of an odd length, a third one, and a rest.
+    const BODY: &[u8] = b"INAM\x01\0\0\0A\0INAM\x02\0\0\0B\0ICRD\x05\0\0\x002024\0\0abc";
+
+    #[test]
+    fn reads_and_spells(rt: HostRuntime) -> Result<(), Fail> {
+        let list = read_info(rt.alloc(), BODY)?;
+        let items = list.items.as_slice();
+        assert_eq!(rt; items.len(), 3);
+        assert_eq!(rt; items[0].raw.as_slice(), b"A".as_slice());
+        assert_eq!(rt; items[1].raw.as_slice(), b"B\0".as_slice());
+        assert_eq!(rt; items[2].raw.as_slice(), b"2024\0".as_slice());
+        assert_eq!(rt; list.rest.as_slice(), b"abc".as_slice());
+        let spelled = spell_info(rt.alloc(), &list)?;
+        assert_eq!(rt;
+            spelled.as_slice(),
+            b"LIST\x29\0\0\0INFOINAM\x01\0\0\0A\0INAM\x02\0\0\0B\0ICRD\x05\0\0\x002024\0\0abc\0".as_slice()
+        );
+        Ok(())
+    }
+
+    #[test]
+    fn refuses_an_item_past_the_end(rt: HostRuntime) {
+        let fault = match read_info(rt.alloc(), b"INAM\x02\0\0\0A\0INAM\x03\0\0\0B\0") {
+            Ok(_) => None,
+            Err(fault) => Some(fault),
+        };
+        assert_eq!(rt; fault, Some(InfoFault::Truncated { at: 10 }));
+    }
+}
