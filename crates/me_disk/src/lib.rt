@@ -9,6 +9,8 @@ mod path;
 mod reopen;
 mod store;
 mod stream;
+#[cfg(test)]
+mod tests;
 
 pub use depot::{Depot, DepotFault, Slot, WorkState};
 pub use limits::{FailAt, Room};

@@ -1,0 +1,321 @@
+// Runs of the depots and streams, compared with what the model says of them.
+ghost use Rattle.std.specs.Prelude.{◌<◌, length};
+
+use crate::{
+    Depot, DepotFault, FailAt, MemoryDepot, MemorySink, MemorySource, PathDepot, Pick, Room, Sink,
+    Slot, Source,
+};
+use std::alloc::Global;
+use std::process::Abort;
+use std::rt::Files;
+use std::test::Fail;
+use std::{fs, process};
+
+const AMPLE: Room = Room {
+    calls: 100,
+    bytes: 1000,
+};
+
+// What a rewrite to `new` leaves: the first listed call or the room decides.
+#[derive(Clone, Copy)]
+struct Rewrite {
+    room: Room,
+    failing: FailAt,
+    done: bool,
+    main: &'static str,
+    written: u64,
+}
+
+const fn calls(calls: u64, bytes: u64) -> Room {
+    Room { calls, bytes }
+}
+
+fn depot_of(alloc: Global, main: &[u8], room: Room, failing: FailAt) -> Result<MemoryDepot, Fail> {
+    let main = main.to_vec(alloc)?;
+    let failing = [failing].to_vec(alloc)?;
+    Ok(MemoryDepot::new(alloc, Some(main), None, room, failing)?)
+}
+
+fn install_new(depot: &mut MemoryDepot) -> Result<(), DepotFault> {
+    depot.begin_work()?;
+    depot.append_work(b"new")?;
+    depot.sync_work()?;
+    depot.install_main()
+}
+
+fn check_rewrite(rt: &impl Abort, depot: &mut MemoryDepot, row: Rewrite) {
+    assert_eq!(rt; install_new(depot).is_ok(), row.done);
+    assert_eq!(rt; depot.content(Slot::Main), Some(row.main.as_bytes()));
+    assert_eq!(rt; depot.written(), row.written);
+    assert_eq!(rt; depot.faults(), if row.done { 0 } else { 1 });
+}
+
+#[test]
+fn a_depot_in_memory_fails_where_it_is_listed_or_has_no_room(rt: HostRuntime) -> Result<(), Fail> {
+    let never = FailAt {
+        call: 9,
+        done: false,
+    };
+    let rows = [
+        Rewrite {
+            room: AMPLE,
+            failing: never,
+            done: true,
+            main: "new",
+            written: 3,
+        },
+        Rewrite {
+            room: AMPLE,
+            failing: FailAt {
+                call: 1,
+                done: false,
+            },
+            done: false,
+            main: "old!",
+            written: 0,
+        },
+        Rewrite {
+            room: AMPLE,
+            failing: FailAt {
+                call: 2,
+                done: false,
+            },
+            done: false,
+            main: "old!",
+            written: 0,
+        },
+        Rewrite {
+            room: AMPLE,
+            failing: FailAt {
+                call: 2,
+                done: true,
+            },
+            done: false,
+            main: "old!",
+            written: 3,
+        },
+        Rewrite {
+            room: AMPLE,
+            failing: FailAt {
+                call: 4,
+                done: false,
+            },
+            done: false,
+            main: "old!",
+            written: 3,
+        },
+        Rewrite {
+            room: AMPLE,
+            failing: FailAt {
+                call: 4,
+                done: true,
+            },
+            done: false,
+            main: "new",
+            written: 3,
+        },
+        Rewrite {
+            room: calls(4, 3),
+            failing: never,
+            done: true,
+            main: "new",
+            written: 3,
+        },
+        Rewrite {
+            room: calls(3, 3),
+            failing: never,
+            done: false,
+            main: "old!",
+            written: 3,
+        },
+        Rewrite {
+            room: calls(4, 2),
+            failing: never,
+            done: false,
+            main: "old!",
+            written: 0,
+        },
+        Rewrite {
+            room: calls(0, 9),
+            failing: never,
+            done: false,
+            main: "old!",
+            written: 0,
+        },
+    ];
+    for row in rows {
+        let mut depot = depot_of(rt.alloc(), b"old!", row.room, row.failing)?;
+        check_rewrite(&rt, &mut depot, row);
+    }
+    Ok(())
+}
+
+// Writes where `Main` is long enough.
+fn overwrite(depot: &mut MemoryDepot, at: u64, bytes: &[u8]) -> Result<(), DepotFault> {
+    let long_enough = match depot.content(Slot::Main) {
+        Some(main) => at as usize <= main.len(),
+        None => false,
+    };
+    if !long_enough {
+        return Err(DepotFault);
+    }
+    depot.write_main(at, bytes)
+}
+
+fn overwrite_twice(depot: &mut MemoryDepot) -> Result<(), DepotFault> {
+    overwrite(depot, 1, b"XY")?;
+    overwrite(depot, 5, b"ZZZ")?;
+    depot.sync_main()
+}
+
+#[test]
+fn a_stopped_depot_opens_again_on_what_the_crash_left(rt: HostRuntime) -> Result<(), Fail> {
+    let never = FailAt {
+        call: 9,
+        done: false,
+    };
+    let rows = [
+        (0, Pick::After, "abcdef"),
+        (1, Pick::Before, "abcdef"),
+        (1, Pick::After, "aXYdef"),
+        (1, Pick::Torn(1), "aXcdef"),
+        (2, Pick::Before, "abcdef"),
+        (2, Pick::Torn(0), "abcdef"),
+        (2, Pick::Torn(3), "aXYdeZ"),
+        (2, Pick::Torn(4), "aXYdeZZ"),
+        (2, Pick::After, "aXYdeZZZ"),
+        (3, Pick::Before, "aXYdeZZZ"),
+    ];
+    for (stop, pick, want) in rows {
+        let mut depot = depot_of(rt.alloc(), b"abcdef", calls(5, 8), never)?;
+        depot.stop_after(stop);
+        assert_eq!(rt; overwrite_twice(&mut depot).is_ok(), stop == 3);
+        let mut again = depot.reopen(pick);
+        assert_eq!(rt;
+            again.content(Slot::Main),
+            Some(want.as_bytes()),
+            "stopped after {stop}"
+        );
+        assert_eq!(rt; (again.faults(), again.written()), (0, 0));
+        assert_eq!(rt; again.has(Slot::Work)?, false);
+    }
+    Ok(())
+}
+
+#[test]
+fn the_room_that_is_left_is_kept(rt: HostRuntime) -> Result<(), Fail> {
+    let failing = FailAt {
+        call: 1,
+        done: false,
+    };
+    let mut depot = depot_of(rt.alloc(), b"old!", calls(4, 3), failing)?;
+    assert!(rt; depot.begin_work().is_err());
+    let mut again = depot.reopen(Pick::After);
+    assert!(rt; install_new(&mut again).is_err());
+    assert_eq!(rt; again.content(Slot::Main), Some(b"old!".as_slice()));
+    Ok(())
+}
+
+fn put_journal(depot: &mut impl Depot, bytes: &[u8]) -> Result<(), DepotFault>
+    requires { length bytes.now < 100 }
+{
+    depot.begin_work()?;
+    depot.append_work(bytes)?;
+    depot.sync_work()?;
+    depot.install_journal()
+}
+
+#[test]
+fn the_journal_is_taken_and_given_away(rt: HostRuntime) -> Result<(), Fail> {
+    let never = FailAt {
+        call: 99,
+        done: false,
+    };
+    let mut depot = depot_of(rt.alloc(), b"abc", AMPLE, never)?;
+    put_journal(&mut depot, b"redo")?;
+    assert_eq!(rt; depot.content(Slot::Journal), Some(b"redo".as_slice()));
+    assert_eq!(rt; depot.content(Slot::Work), None);
+    depot.drop_journal()?;
+    assert_eq!(rt; depot.content(Slot::Journal), None);
+    Ok(())
+}
+
+#[test]
+fn work_is_made_and_given_away(rt: HostRuntime) -> Result<(), Fail> {
+    let never = FailAt {
+        call: 99,
+        done: false,
+    };
+    let mut depot = depot_of(rt.alloc(), b"abc", AMPLE, never)?;
+    depot.begin_work()?;
+    assert_eq!(rt; depot.content(Slot::Work), Some(b"".as_slice()));
+    depot.drop_work()?;
+    assert_eq!(rt; depot.content(Slot::Work), None);
+    Ok(())
+}
+
+#[test]
+fn a_source_gives_its_bytes_in_order(rt: HostRuntime) -> Result<(), Fail> {
+    let bytes = b"abcde".to_vec(rt.alloc())?;
+    let failing = [2].to_vec(rt.alloc())?;
+    let mut source = MemorySource::new(bytes, failing);
+    let mut into = [0u8; 3];
+    assert_eq!(rt; source.read(&mut into).ok(), Some(3));
+    assert_eq!(rt; &into, b"abc");
+    assert!(rt; source.read(&mut into).is_err());
+    assert_eq!(rt; source.read(&mut into).ok(), Some(2));
+    assert_eq!(rt; &into, b"dec");
+    assert_eq!(rt; source.read(&mut into).ok(), Some(0));
+    Ok(())
+}
+
+#[test]
+fn a_sink_takes_whole_pieces(rt: HostRuntime) -> Result<(), Fail> {
+    let failing = [2].to_vec(rt.alloc())?;
+    let mut sink = MemorySink::new(rt.alloc(), 5, failing)?;
+    assert!(rt; sink.write_all(b"abc").is_ok());
+    assert!(rt; sink.write_all(b"d").is_err());
+    assert!(rt; sink.write_all(b"def").is_err());
+    assert!(rt; sink.write_all(b"de").is_ok());
+    assert_eq!(rt; sink.written(), b"abcde".as_slice());
+    Ok(())
+}
+
+fn edit_in_place<R: Files + Clone + Drop>(depot: &mut PathDepot<R>) -> Result<(), DepotFault> {
+    depot.write_main(2, b"XY")?;
+    depot.set_main_len(5)?;
+    depot.sync_main()?;
+    depot.drop_journal()
+}
+
+fn put_main<R: Files + Clone + Drop>(depot: &mut PathDepot<R>) -> Result<(), DepotFault> {
+    depot.begin_work()?;
+    depot.append_work(b"new")?;
+    depot.sync_work()?;
+    depot.install_main()
+}
+
+fn check_reads<R: Files + Clone + Drop>(rt: &impl Abort, depot: &mut PathDepot<R>) {
+    let mut into = [0u8; 4];
+    assert!(rt; depot.read_at(Slot::Main, 1, &mut into).is_ok());
+    assert_eq!(rt; &into, b"bXYe");
+    assert!(rt; depot.read_at(Slot::Main, 2, &mut into).is_err());
+    assert_eq!(rt; depot.faults(), 1);
+}
+
+#[test]
+fn a_depot_over_a_path_keeps_its_files(rt: HostRuntime) -> Result<(), Fail> {
+    let name = format!(in rt.alloc(); "/tmp/me-disk-{}", process::id(rt.process()))?;
+    fs::write(&rt, name.as_str(), b"abcdef")?;
+    let mut depot = PathDepot::new(rt.clone()?, rt.alloc(), name.as_str())?;
+    put_journal(&mut depot, b"redo")?;
+    assert_eq!(rt; depot.len(Slot::Journal)?, 4);
+    edit_in_place(&mut depot)?;
+    assert_eq!(rt; depot.has(Slot::Journal)?, false);
+    check_reads(&rt, &mut depot);
+    put_main(&mut depot)?;
+    assert_eq!(rt; depot.has(Slot::Work)?, false);
+    assert_eq!(rt; fs::read(&rt, name.as_str())?.as_slice(), b"new".as_slice());
+    fs::remove_file(&rt, name.as_str())?;
+    Ok(())
+}
