@@ -78,7 +78,7 @@ bytes_of (c ∷ cs) left h =
     (IsBytes-front c.body (c.pad ++ (spell_all cs ++ left)) b, bytes_of cs left (IsBytes-behind c.pad (spell_all cs ++ left) (IsBytes-behind c.body (c.pad ++ (spell_all cs ++ left)) b)))
 
 module _ {P S : Type 0} (f : Format P S) (good : GivesBack f.front) (moves : Moves f.front) (m : P → Chunk → List ℕ) (keeps : (p : P) (c : Chunk) → length (m p c) ≡ length c.body) where
-  kids_joined : (q : P) (c : Chunk) → IsBytes c.body → spell_all (kids f q c).chunks ++ (kids f q c).left ≡ drop (f.prefix q) c.body
+  pub kids_joined : (q : P) (c : Chunk) → IsBytes c.body → spell_all (kids f q c).chunks ++ (kids f q c).left ≡ drop (f.prefix q) c.body
   kids_joined q c bytes = chunks_joined f.front good (f.start q) (drop (f.prefix q) c.body) (IsBytes-drop (f.prefix q) c.body bytes)
 
   pub kids_bytes : (q : P) (c : Chunk) → IsBytes c.body → IsBytes (spell_all (kids f q c).chunks ++ (kids f q c).left)

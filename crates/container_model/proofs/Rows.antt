@@ -1,5 +1,5 @@
 -- A table whose numbers are changed has as many bytes, the changed numbers, and the same bytes behind them.
-use Rattle.std.proofs.Common.{◌≡◌, ℕ, zero, suc, ◌+◌, ◌*◌, ◌^◌, ◌<◌, ◌≤◌, Bool, true, false, ltb, List, ◌∷◌, ◌++◌, length, map, take, drop, refl, sym, ap, ◌∙◌, append_assoc, arith}
+use Rattle.std.proofs.Common.{◌≡◌, ℕ, zero, suc, ◌+◌, ◌*◌, ◌^◌, ◌<◌, ◌≤◌, Bool, true, false, ltb, List, [], ◌∷◌, ◌++◌, length, map, take, drop, refl, sym, ap, ◌∙◌, append_assoc, arith}
 use Rattle.std.specs.List.{AllByRecursion}
 use Rattle.std.proofs.lemmas.Bool.{ltb-false, le-ltb}
 use Rattle.std.proofs.lemmas.Nat.{be_bytes_4, be_bytes_8, from_be_bytes-to_be_bytes_4, from_be_bytes-to_be_bytes_8, le_bytes_2, le_bytes_4, le_bytes_8, from_le_bytes-to_le_bytes_2, from_le_bytes-to_le_bytes_4, from_le_bytes-to_le_bytes_8}
@@ -85,18 +85,25 @@ module _ (w : Width) (bound : ℕ) (sp : Spells w bound) (f : ℕ → ℕ) where
       let step : w.bytes * suc k ≡ w.bytes + w.bytes * k = omega arith in
       omega (arith, step, sp.put_len (f (w.get (take w.bytes b))), spelled_len k (drop w.bytes b), length-append (w.put (f (w.get (take w.bytes b)))) (spelled w (map f (numbers w k (drop w.bytes b)))))
 
-  -- where no number changes, no byte does
-  pub changed_none : ((p : ℕ) → f p ≡ p) → (k : ℕ) (b : List ℕ) → IsBytes b → changed w f k b ≡ b
-  changed_none same zero b bytes = refl
-  changed_none same (suc k) b bytes = go (ltb (length b) w.bytes) refl (changed_none same k (drop w.bytes b) (IsBytes-drop w.bytes b bytes))
+  -- where none of the numbers changes, no byte does
+  pub changed_same : (k : ℕ) (b : List ℕ) → AllByRecursion (λ p. f p ≡ p) (numbers w k b) → IsBytes b → changed w f k b ≡ b
+  changed_same zero b same bytes = refl
+  changed_same (suc k) b same bytes = go (ltb (length b) w.bytes) refl (changed_same k (drop w.bytes b) same.1 (IsBytes-drop w.bytes b bytes))
     where
       go : (t : Bool) → ltb (length b) w.bytes ≡ t → changed w f k (drop w.bytes b) ≡ drop w.bytes b → changed_by w f b (changed w f k (drop w.bytes b)) t ≡ b
       go true e again = refl
       go false e again =
           let len : length (take w.bytes b) ≡ w.bytes = omega (arith, ltb-false _ _ e, length-take w.bytes b) in
           ap (λ (x : List ℕ). w.put (f (w.get (take w.bytes b))) ++ x) again
-          ∙ ap (λ (n : ℕ). w.put n ++ drop w.bytes b) (same (w.get (take w.bytes b)))
+          ∙ ap (λ (n : ℕ). w.put n ++ drop w.bytes b) same.0
           ∙ ap (λ (x : List ℕ). x ++ drop w.bytes b) (sp.put_get (take w.bytes b) len (IsBytes-take w.bytes b bytes)) ∙ take-append-drop w.bytes b
+
+  pub changed_none : ((p : ℕ) → f p ≡ p) → (k : ℕ) (b : List ℕ) → IsBytes b → changed w f k b ≡ b
+  changed_none same k b bytes = changed_same k b (every (numbers w k b)) bytes
+    where
+      every : (ns : List ℕ) → AllByRecursion (λ p. f p ≡ p) ns
+      every [] = tt
+      every (n ∷ ns) = (same n, every ns)
 
 -- ---- a number in a longer row
 

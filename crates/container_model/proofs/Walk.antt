@@ -1,13 +1,13 @@
 -- What is met in a tree of chunks: the chunks that are nested in it, and the ends of what is opened.
 use Rattle.std.proofs.Common.{◌≡◌, ℕ, zero, suc, ◌+◌, ◌≤◌, List, [], ◌∷◌, ◌++◌, length, map, take, Option, Some, None, refl, sym, ap, ◌∙◌}
 use Rattle.std.specs.List.{flat_map, AllByRecursion}
-use Rattle.std.proofs.lemmas.List.{append-nil}
+use Rattle.std.proofs.lemmas.List.{append-nil, take-append-drop}
 use Rattle.std.proofs.lemmas.List.Concat.{flat_map-append}
-use Rattle.container_model.specs.Chunk.{Chunk, spell, Run, ends, GivesBack}
-use Rattle.container_model.specs.Deep.{Format, kids, mend_at, mend, Whole_at, Whole, Leaf, stands, leaves_at, leaves}
+use Rattle.container_model.specs.Chunk.{Chunk, spell, spell_all, Run, ends, GivesBack}
+use Rattle.container_model.specs.Deep.{Format, kids, with_kids, mend_at, mend, Whole_at, Whole, Leaf, stands, leaves_at, leaves}
 use Rattle.container_model.specs.Walk.{Step, chunk_at, end_at, body_at, along, walk_at, walk, chunk_met, nested_at, nested}
 use Rattle.container_model.proofs.Codec.{IsBytes}
-use Rattle.container_model.proofs.Deep.{Moves, bytes_of, kids_bytes, each_alike, kids_again, mend_alike}
+use Rattle.container_model.proofs.Deep.{Moves, bytes_of, kids_joined, kids_bytes, each_alike, kids_again, mend_alike}
 
 -- ---- lists
 
@@ -152,3 +152,28 @@ module _ {P S : Type 0} (f : Format P S) (good : GivesBack f.front) (moves : Mov
     mend_nested same (suc d) p c w bytes =
         ap (λ o. g (stands p (mend f m (suc d) p c)) ++ flat_map g (nested_at f (nested f d) (mend f m (suc d) p c) o)) (same (suc d) p c w bytes)
         ∙ at_nested d (λ q k x b. mend_nested same d q k x b) p c (f.opens p c.id (take 4 c.body)) w bytes
+
+  -- where no leaf changes, nothing does
+  abbrev pub StillLeaf : Leaf P → Type 0
+  StillLeaf l = IsBytes l.chunk.body → m l.place l.chunk ≡ l.chunk.body
+
+  kids_still : (d : ℕ) (q : P) → ((c : Chunk) → AllByRecursion StillLeaf (leaves f d q c) → Whole f d q c → IsBytes c.body → mend f m d q c ≡ c) → (cs : List Chunk)
+      → AllByRecursion StillLeaf (flat_map (leaves f d q) cs) → AllByRecursion (Whole f d q) cs → AllByRecursion (λ c. IsBytes c.body) cs → map (mend f m d q) cs ≡ cs
+  kids_still d q again [] h w b = refl
+  kids_still d q again (c ∷ cs) h w b =
+      let p = all_parts StillLeaf (leaves f d q c) (flat_map (leaves f d q) cs) h in
+      rw (again c p.0 w.0 b.0, kids_still d q again cs p.1 w.1 b.1) refl
+
+  at_still : (d : ℕ) → ((q : P) (c : Chunk) → AllByRecursion StillLeaf (leaves f d q c) → Whole f d q c → IsBytes c.body → mend f m d q c ≡ c)
+      → (p : P) (c : Chunk) (o : Option P) → AllByRecursion StillLeaf (leaves_at f (leaves f d) p c o) → Whole_at f (Whole f d) c o → IsBytes c.body → mend_at f m (mend f m d) p c o ≡ c
+  at_still d again p c None h w bytes = ap (λ (x : List ℕ). record c { body = x }) (h.0 bytes)
+  at_still d again p c (Some q) h w bytes =
+      let k = kids f q c in
+      let same = kids_still d q (again q) k.chunks h w.2 (bytes_of k.chunks k.left (kids_bytes f good moves m keeps q c bytes)) in
+      let body : take (f.prefix q) c.body ++ (spell_all k.chunks ++ k.left) ≡ c.body = ap (λ (x : List ℕ). take (f.prefix q) c.body ++ x) (kids_joined f good moves m keeps q c bytes) ∙ take-append-drop (f.prefix q) c.body in
+      ap (λ (cs : List Chunk). with_kids f q c cs) same ∙ ap (λ (x : List ℕ). record c { body = x }) body
+
+  pub mend_still : (d : ℕ) (p : P) (c : Chunk) → AllByRecursion StillLeaf (leaves f d p c) → Whole f d p c → IsBytes c.body → mend f m d p c ≡ c
+  unfolding mend Whole leaves
+  mend_still zero p c h w bytes = ap (λ (x : List ℕ). record c { body = x }) (h.0 bytes)
+  mend_still (suc d) p c h w bytes = at_still d (λ q k x y z. mend_still d q k x y z) p c (f.opens p c.id (take 4 c.body)) h w bytes

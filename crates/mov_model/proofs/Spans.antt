@@ -50,8 +50,8 @@ module _ (m : Movie) (e : List (Item Value)) (joined : spell_all (atoms_in m.mov
           rw (spell_all-append (gaps_of m.behind) (rest_behind m e), grown_bytes (spell_all (gaps_of m.behind)) (pieces_of m e) last (opened_last m e o), kept_are, open_left o) (simp (append_assoc, append-nil))
       go false o = rw kept_are (append_assoc (spell_all (atoms_in m.movie).chunks) left (spell_all (rest_behind m e) ++ m.left))
 
-  new_inner : spell_all (lay (fill (ends_file m e)) (whole_pieces m e)) ++ behind_pieces ≡ (spell_all (laid_kids m e) ++ left) ++ (spell_all (padding_behind m e ++ rest_behind m e) ++ m.left)
-  new_inner = go (is_open m e) refl
+  pub laid_inner : spell_all (lay (fill (ends_file m e)) (whole_pieces m e)) ++ behind_pieces ≡ (spell_all (laid_kids m e) ++ left) ++ (spell_all (padding_behind m e ++ rest_behind m e) ++ m.left)
+  laid_inner = go (is_open m e) refl
     where
       go : (t : Bool) → is_open m e ≡ t
           → spell_all (lay (fill (ends_file m e)) (cond t (grown (spell_all (gaps_of m.behind)) (pieces_of m e)) (pieces_of m e))) ++ (cond t [] left ++ (spell_all (rest_behind m e) ++ m.left))
@@ -83,7 +83,7 @@ module _ (m : Movie) (e : List (Item Value)) (joined : spell_all (atoms_in m.mov
       = ap (λ (z : List ℕ). splice z (edit_cuts m e)) whole ∙ splice_past 0 x (flat_map old_bytes (whole_pieces m e) ++ behind_pieces) (edit_cuts m e) from
       ∙ ap (λ (z : List ℕ). x ++ z) (ap (λ (k : ℕ). splice_from k (flat_map old_bytes (whole_pieces m e) ++ behind_pieces) (edit_cuts m e)) (omega (arith, at)) ∙ lay_splices (fill (ends_file m e)) (kids_at m e) (whole_pieces m e) behind_pieces (whole_brings m e)) in
       let new : spell_movie (laid_movie m e) ≡ (b ++ head_now) ++ y
-      = ap (λ (z : List ℕ). z ++ m.left) (spell_all-append m.before ((laid_movie m e).movie ∷ (laid_movie m e).behind)) ∙ around m.before head_now body_now m.movie.pad (laid_movie m e).behind m.left no_pad ∙ ap (λ (z : List ℕ). (b ++ head_now) ++ z) (sym new_inner) in
+      = ap (λ (z : List ℕ). z ++ m.left) (spell_all-append m.before ((laid_movie m e).movie ∷ (laid_movie m e).behind)) ∙ around m.before head_now body_now m.movie.pad (laid_movie m e).behind m.left no_pad ∙ ap (λ (z : List ℕ). (b ++ head_now) ++ z) (sym laid_inner) in
       let set : with_size m (length body_now) (x ++ y) ≡ b ++ (head_now ++ y)
       = ap (λ (z : List ℕ). z ++ (head_now ++ drop (kids_at m e) (x ++ y))) (ap (take (length b)) (append_assoc b head y) ∙ take_at b (head ++ y) (length b) refl) ∙ ap (λ (z : List ℕ). b ++ (head_now ++ z)) (drop_at x y (kids_at m e) at) in
       new ∙ append_assoc b head_now y ∙ sym (ap (with_size m (length body_now)) spliced ∙ set)

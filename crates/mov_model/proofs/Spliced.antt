@@ -8,15 +8,15 @@ use Rattle.part_tree.specs.declared.field.Value.{Value}
 use Rattle.container_model.specs.Chunk.{header_bytes, Chunk, spell_all}
 use Rattle.container_model.specs.Cuts.{cuts_with, changed_piece}
 use Rattle.container_model.specs.Items.{Item, put_all, edit_carrier}
-use Rattle.container_model.specs.Splice.{Ascend, end_of, splice, splice_from, shift}
+use Rattle.container_model.specs.Splice.{Ascend, Cut, end_of, shift, splice, splice_from}
 use Rattle.container_model.specs.Units.{lacks_pad, Piece, copied, replaced, shut, old_bytes, lay}
 use Rattle.container_model.proofs.Cuts.{CanMake, AllMake, cuts_ascend_with, lay_splices_with, units_make}
 use Rattle.container_model.proofs.Deep.{Alike}
-use Rattle.container_model.proofs.Units.{AllCells, spell_all-append}
+use Rattle.container_model.proofs.Units.{AllCells, lay_splices, spell_all-append}
 use Rattle.mov_model.specs.Atoms.{cell_of, atoms_in}
 use Rattle.mov_model.specs.User.{user_items, udta}
 use Rattle.mov_model.specs.Tables.{relocated}
-use Rattle.mov_model.specs.Movie.{Movie, spell_movie, movie_of, fill, gaps_of, grown, fresh, carried, pieces_of, is_open, whole_pieces, ends_file, kids_at, edit_cuts, new_movie, edited_file}
+use Rattle.mov_model.specs.Movie.{Movie, spell_movie, movie_of, fill, gaps_of, grown, fresh, carried, pieces_of, is_open, whole_pieces, ends_file, kids_at, edit_cuts, laid_movie, new_movie, edited_file}
 use Rattle.mov_model.specs.Support.{Supported}
 use Rattle.mov_model.specs.Edited.{changes, new_file}
 use Rattle.mov_model.specs.Cuts.{kid_cuts, header_cut, all_cuts}
@@ -26,9 +26,45 @@ use Rattle.mov_model.proofs.Clauses.{whole_brings}
 use Rattle.mov_model.proofs.Kids.{KidOk, kids_ok}
 use Rattle.mov_model.proofs.Parts.{udta_no_trak}
 use Rattle.mov_model.proofs.Relocated.{new_inner, kids_all}
-use Rattle.mov_model.proofs.Spans.{around, behind_pieces, old_inner}
+use Rattle.mov_model.proofs.Spans.{around, behind_pieces, laid_inner, old_inner}
 use Rattle.mov_model.proofs.Tree.{kid_makes, plain_makes}
 use Rattle.mov_model.proofs.Why.{kids_supported}
+
+-- the header of moov is replaced, and then what is behind it
+module _ (m : Movie) (e : List (Item Value)) (joined : spell_all (atoms_in m.movie).chunks ++ (atoms_in m.movie).left ≡ m.movie.body) (no_pad : m.movie.pad ≡ []) where
+  abbrev inner : List ℕ
+  inner = flat_map old_bytes (whole_pieces m e) ++ behind_pieces m e joined no_pad
+
+  abbrev head : List ℕ
+  head = header_bytes m.movie.form m.movie.id (length m.movie.body)
+
+  pub movie_bytes : spell_movie m ≡ (spell_all m.before ++ head) ++ inner
+  movie_bytes =
+      ap (λ (z : List ℕ). z ++ m.left) (spell_all-append m.before (m.movie ∷ m.behind)) ∙ around m e joined no_pad m.before head m.movie.body m.movie.pad m.behind m.left no_pad
+      ∙ ap (λ (z : List ℕ). (spell_all m.before ++ head) ++ z) (old_inner m e joined no_pad)
+
+  pub header_spliced : (n : ℕ) (cs : List Cut) (y : List ℕ) → splice_from (kids_at m e) inner cs ≡ y → splice (spell_movie m) (header_cut m n ∷ cs) ≡ spell_all m.before ++ (header_bytes m.movie.form m.movie.id n ++ y)
+  header_spliced n cs y laid =
+      let b = spell_all m.before in
+      let x = header_cut m n in
+      let at : length (b ++ head) ≡ kids_at m e = length-append b head in
+      let z0 : x.at - 0 ≡ length b = omega arith in
+      let z1 : end_of x - 0 ≡ kids_at m e = omega arith in
+      let front : take (x.at - 0) ((b ++ head) ++ inner) ≡ b = ap (λ (k : ℕ). take k ((b ++ head) ++ inner)) z0 ∙ ap (take (length b)) (append_assoc b head inner) ∙ take_at b (head ++ inner) (length b) refl in
+      let back : drop (end_of x - 0) ((b ++ head) ++ inner) ≡ inner = ap (λ (k : ℕ). drop k ((b ++ head) ++ inner)) z1 ∙ drop_at (b ++ head) inner (kids_at m e) at in
+      ap (λ (z : List ℕ). splice z (x ∷ cs)) movie_bytes ∙ ap (λ (z : List ℕ). z ++ (x.bytes ++ splice_from (end_of x) (drop (end_of x - 0) ((b ++ head) ++ inner)) cs)) front
+      ∙ ap (λ (z : List ℕ). b ++ (x.bytes ++ splice_from (end_of x) z cs)) back ∙ ap (λ (z : List ℕ). b ++ (x.bytes ++ z)) laid
+
+  pub laid_spliced : spell_movie (laid_movie m e) ≡ splice (spell_movie m) (header_cut m (length (laid_movie m e).movie.body) ∷ edit_cuts m e)
+  laid_spliced =
+      let b = spell_all m.before in
+      let body_now = (laid_movie m e).movie.body in
+      let head_now = header_bytes m.movie.form m.movie.id (length body_now) in
+      let y = spell_all (lay (fill (ends_file m e)) (whole_pieces m e)) ++ behind_pieces m e joined no_pad in
+      let made : spell_movie (laid_movie m e) ≡ (b ++ head_now) ++ y
+      = ap (λ (z : List ℕ). z ++ m.left) (spell_all-append m.before ((laid_movie m e).movie ∷ (laid_movie m e).behind)) ∙ around m e joined no_pad m.before head_now body_now m.movie.pad (laid_movie m e).behind m.left no_pad
+      ∙ ap (λ (z : List ℕ). (b ++ head_now) ++ z) (sym (laid_inner m e joined no_pad)) in
+      made ∙ append_assoc b head_now y ∙ sym (header_spliced (length body_now) (edit_cuts m e) y (lay_splices (fill (ends_file m e)) (kids_at m e) (whole_pieces m e) (behind_pieces m e joined no_pad) (whole_brings m e)))
 
 module _ (m : Movie) (e : List (Item Value)) (joined : spell_all (atoms_in m.movie).chunks ++ (atoms_in m.movie).left ≡ m.movie.body) (no_pad : m.movie.pad ≡ [])
     (fine : AllByRecursion (λ c. (lacks_pad c ≡ false) × Alike c (relocated (shift (edit_cuts m e)) c)) (atoms_in m.movie).chunks)
@@ -70,42 +106,27 @@ module _ (m : Movie) (e : List (Item Value)) (joined : spell_all (atoms_in m.mov
 
   pub movie_is_spliced : spell_movie (new_movie m e) ≡ splice (spell_movie m) (all_cuts m e)
   movie_is_spliced =
-      let head = header_bytes m.movie.form m.movie.id (length m.movie.body) in
       let body_now = (new_movie m e).movie.body in
       let head_now = header_bytes m.movie.form m.movie.id (length body_now) in
       let b = spell_all m.before in
-      let x = header_cut m (length body_now) in
       let ps = whole_pieces m e in
-      let inner = flat_map old_bytes ps ++ behind_pieces m e joined no_pad in
       let cs = cuts_with (kid_cuts f) (fill (ends_file m e)) (kids_at m e) ps in
       let y = spell_all (lay (fill (ends_file m e)) (map (changed_piece (relocated f)) ps)) ++ behind_pieces m e joined no_pad in
-      let at : length (b ++ head) ≡ kids_at m e = length-append b head in
-      let z0 : x.at - 0 ≡ length b = omega arith in
-      let z1 : end_of x - 0 ≡ kids_at m e = omega arith in
-      let z2 : end_of x ≡ kids_at m e = refl in
-      let whole : spell_movie m ≡ (b ++ head) ++ inner
-      = ap (λ (z : List ℕ). z ++ m.left) (spell_all-append m.before (m.movie ∷ m.behind)) ∙ around m e joined no_pad m.before head m.movie.body m.movie.pad m.behind m.left no_pad ∙ ap (λ (z : List ℕ). (b ++ head) ++ z) (old_inner m e joined no_pad) in
-      let front : take (x.at - 0) ((b ++ head) ++ inner) ≡ b = ap (λ (k : ℕ). take k ((b ++ head) ++ inner)) z0 ∙ ap (take (length b)) (append_assoc b head inner) ∙ take_at b (head ++ inner) (length b) refl in
-      let back : drop (end_of x - 0) ((b ++ head) ++ inner) ≡ inner = ap (λ (k : ℕ). drop k ((b ++ head) ++ inner)) z1 ∙ drop_at (b ++ head) inner (kids_at m e) at in
-      let laid : splice_from (kids_at m e) inner cs ≡ y = lay_splices_with (kid_cuts f) (relocated f) (fill (ends_file m e)) (kids_at m e) ps (behind_pieces m e joined no_pad) (whole_brings m e) whole_makes in
-      let spliced : splice (spell_movie m) (x ∷ cs) ≡ b ++ (head_now ++ y)
-      = ap (λ (z : List ℕ). splice z (x ∷ cs)) whole ∙ ap (λ (z : List ℕ). z ++ (head_now ++ splice_from (end_of x) (drop (end_of x - 0) ((b ++ head) ++ inner)) cs)) front
-      ∙ ap (λ (z : List ℕ). b ++ (head_now ++ splice_from (end_of x) z cs)) back ∙ ap (λ (z : List ℕ). b ++ (head_now ++ z)) laid in
+      let laid : splice_from (kids_at m e) (flat_map old_bytes ps ++ behind_pieces m e joined no_pad) cs ≡ y = lay_splices_with (kid_cuts f) (relocated f) (fill (ends_file m e)) (kids_at m e) ps (behind_pieces m e joined no_pad) (whole_brings m e) whole_makes in
       let made : spell_movie (new_movie m e) ≡ (b ++ head_now) ++ y
       = ap (λ (z : List ℕ). z ++ m.left) (spell_all-append m.before ((new_movie m e).movie ∷ (new_movie m e).behind)) ∙ around m e joined no_pad m.before head_now body_now m.movie.pad (new_movie m e).behind m.left no_pad
       ∙ ap (λ (z : List ℕ). (b ++ head_now) ++ z) (sym (new_inner m e joined no_pad fine)) in
-      made ∙ append_assoc b head_now y ∙ sym spliced
+      made ∙ append_assoc b head_now y ∙ sym (header_spliced m e joined no_pad (length body_now) cs y laid)
 
   -- the spans ascend and lie in the file
   pub cuts_ascend : Ascend 0 (all_cuts m e) (length (spell_movie m))
   cuts_ascend =
-      let head = header_bytes m.movie.form m.movie.id (length m.movie.body) in
       let b = spell_all m.before in
+      let hd = header_bytes m.movie.form m.movie.id (length m.movie.body) in
       let ps = whole_pieces m e in
       let behind = behind_pieces m e joined no_pad in
-      let whole : spell_movie m ≡ (b ++ head) ++ (flat_map old_bytes ps ++ behind)
-      = ap (λ (z : List ℕ). z ++ m.left) (spell_all-append m.before (m.movie ∷ m.behind)) ∙ around m e joined no_pad m.before head m.movie.body m.movie.pad m.behind m.left no_pad ∙ ap (λ (z : List ℕ). (b ++ head) ++ z) (old_inner m e joined no_pad) in
-      let room : kids_at m e + length (flat_map old_bytes ps) ≤ length (spell_movie m) = omega (arith, ap length whole, length-append b head, length-append (b ++ head) (flat_map old_bytes ps ++ behind), length-append (flat_map old_bytes ps) behind) in
+      let room : kids_at m e + length (flat_map old_bytes ps) ≤ length (spell_movie m)
+      = omega (arith, ap length (movie_bytes m e joined no_pad), length-append b hd, length-append (b ++ hd) (flat_map old_bytes ps ++ behind), length-append (flat_map old_bytes ps) behind) in
       (omega arith, cuts_ascend_with (kid_cuts f) (relocated f) (fill (ends_file m e)) (kids_at m e) ps (length (spell_movie m)) whole_makes room)
 
 pub ascend_law : (o : List ℕ) (e : List EditItem) → IsBytes o → Supported o → Ascend 0 (all_cuts (movie_of o) (changes o e)) (length o)

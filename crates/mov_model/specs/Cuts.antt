@@ -1,6 +1,7 @@
 -- The new file as the old one with spans replaced: the header of moov, the rows of its tables and the slots of units; and the places of the old file that tables hold.
-use Rattle.std.specs.Prelude.{ℕ, zero, suc, ◌+◌, ◌*◌, List, [], ◌∷◌, length, map, codes, if◌then◌else◌}
-use Rattle.std.specs.List.{flat_map}
+use Rattle.std.specs.Prelude.{◌≡◌, ℕ, zero, suc, ◌+◌, ◌*◌, List, [], ◌∷◌, length, map, codes, if◌then◌else◌}
+use Rattle.std.specs.List.{AllByRecursion, flat_map}
+use Rattle.part_tree.specs.declared.field.EditItem.{EditItem}
 use Rattle.part_tree.specs.declared.field.Value.{Value}
 use Rattle.part_tree.specs.declared.names.Span.{Span}
 use Rattle.container_model.specs.Chunk.{Chunk, header_bytes, spell_all}
@@ -10,8 +11,10 @@ use Rattle.container_model.specs.Rows.{Width, be32, be64, spelled}
 use Rattle.container_model.specs.Splice.{Cut, shift}
 use Rattle.container_model.specs.Walk.{Step, chunk_at, end_at, body_at, walk}
 use Rattle.mov_model.specs.Atoms.{Place, moov, stbl, is, format}
-use Rattle.mov_model.specs.Tables.{count, rows}
+use Rattle.mov_model.specs.Tables.{count, places, rows, tables}
 use Rattle.mov_model.specs.Movie.{Movie, movie_of, edit_cuts, fill, whole_pieces, ends_file, kids_at, new_movie}
+use Rattle.mov_model.specs.Parts.{tracks}
+use Rattle.mov_model.specs.Edited.{changes}
 use Rattle.mov_model.specs.Reading.{moov_steps}
 
 -- ---- where tables hold places of the file
@@ -74,3 +77,11 @@ header_cut m n = record {
 -- by place: the header of moov, then the tables of the atoms that are copied and the slots of the units
 abbrev pub all_cuts : Movie → List (Item Value) → List Cut
 all_cuts m e = header_cut m (length (new_movie m e).movie.body) ∷ cuts_with (kid_cuts (shift (edit_cuts m e))) (fill (ends_file m e)) (kids_at m e) (whole_pieces m e)
+
+-- no table holds a place that moves
+abbrev pub TablesStay : List ℕ → List EditItem → Type 0
+TablesStay o e = AllByRecursion (λ t. AllByRecursion (λ p. shift (edit_cuts (movie_of o) (changes o e)) p ≡ p) (places (tables t))) (tracks (movie_of o))
+
+-- by place: the header of moov, and the slots of the units
+abbrev pub unit_cuts : Movie → List (Item Value) → List Cut
+unit_cuts m e = header_cut m (length (new_movie m e).movie.body) ∷ edit_cuts m e

@@ -1,5 +1,5 @@
 -- When an edit has room in place, and what is then written (this project's own).
-use Rattle.std.specs.Prelude.{ℕ, ◌+◌, ◌-◌, ◌^◌, ◌≡◌, nat_le, nat_lt, ◌==◌, List, [], ◌∷◌, ◌++◌, length, take, filter, Bool, true, ◌&&◌, ◌||◌, not, if◌then◌else◌}
+use Rattle.std.specs.Prelude.{ℕ, ◌+◌, ◌-◌, ◌^◌, ◌≡◌, nat_le, nat_lt, ◌==◌, List, [], ◌∷◌, ◌++◌, length, take, drop, filter, Bool, true, ◌&&◌, ◌||◌, not, if◌then◌else◌}
 use Rattle.std.specs.Int.{w32, w64, to_be_bytes}
 use Rattle.part_tree.specs.declared.field.EditItem.{EditItem}
 use Rattle.part_tree.specs.declared.field.Value.{Value}
@@ -29,7 +29,7 @@ patch at bytes = record { at = at; bytes = bytes }
 -- the spelling of each unit, then the header of its padding; the padding's body stays
 abbrev pub unit_patches : Fill → ℕ → List Piece → List Patch
 unit_patches f at [] = []
-unit_patches f at (copied c ∷ ps) = unit_patches f (at + length (spell_all (c ∷ []))) ps
+unit_patches f at (copied c ∷ ps) = unit_patches f (at + length (spell c)) ps
 unit_patches f at (replaced lead slot now last ∷ ps) =
     patch (at + length (spell_all lead)) (unit_bytes lead now ++ take 8 (spell_all (f last slot (length (unit_bytes lead now))))) ∷ unit_patches f (at + length (spell_all lead ++ slot)) ps
 
@@ -49,6 +49,15 @@ patches_of m e = filter (λ p. not (is_nil p.bytes)) (moov_patch m (length (new_
 
 abbrev pub patches : List ℕ → List EditItem → List Patch
 patches o e = patches_of (movie_of o) (changes o e)
+
+-- bytes from a place on, over what was there
+abbrev pub overlay : ℕ → List ℕ → List ℕ → List ℕ
+overlay at bytes old = take at old ++ (bytes ++ drop (at + length bytes) old)
+
+-- the patches laid over a file, one after another
+abbrev pub patched : List Patch → List ℕ → List ℕ
+patched [] b = b
+patched (p ∷ ps) b = patched ps (overlay p.at p.bytes b)
 
 -- ---- room
 

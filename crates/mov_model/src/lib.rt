@@ -15,7 +15,7 @@ ghost use Rattle.part_tree.specs.declared.field.EditItem.{EditItem};
 ghost use Rattle.part_tree.specs.declared.field.RuleSet.TheVariants.{Base};
 ghost use Rattle.part_tree.specs.declared.names.Kind.TheVariants.{Mov};
 ghost use Rattle.field_model.specs.Broken.{broken};
-ghost use Rattle.mov_model.specs.Cuts.{all_cuts};
+ghost use Rattle.mov_model.specs.Cuts.{TablesStay, all_cuts, unit_cuts};
 ghost use Rattle.mov_model.specs.Large.{too_large};
 
 /// For every supported movie and every edit of fields that keeps the rules of Base, and after which nothing is too large,
@@ -52,4 +52,9 @@ pub fn refusals_are_exact()
 pub fn new_is_spliced()
     ensures spliced { (o : List ℕ) (e : List EditItem) → IsBytes o → Supported o → new_file o e ≡ splice o (all_cuts (movie_of o) (changes o e)) }
     ensures ascend { (o : List ℕ) (e : List EditItem) → IsBytes o → Supported o → Ascend 0 (all_cuts (movie_of o) (changes o e)) (length o) }
+{}
+
+/// Where no table holds a place that moves, only the header of `moov` and the slots of units change.
+pub fn only_units_change()
+    ensures { (o : List ℕ) (e : List EditItem) → IsBytes o → Supported o → TablesStay o e → new_file o e ≡ splice o (unit_cuts (movie_of o) (changes o e)) }
 {}
