@@ -4,3 +4,4 @@ pub mod Copies
 pub mod Installs
 pub mod Replaces
 pub mod Ends
+pub mod Again

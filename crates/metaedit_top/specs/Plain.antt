@@ -46,3 +46,11 @@ list_of title = chunk (codes "LIST") (codes "INFO" ++ spell (title_item title))
 -- the file with that list behind its chunks, and with its form's size set
 unfoldable pub new_file : List ℕ → List ℕ → List ℕ
 new_file b title = header_bytes riff (codes "RIFF") (length b + length (spell (list_of title)) - 8) ++ (drop 8 b ++ spell (list_of title))
+
+-- ---- what the new file reads as
+
+-- The new file is one form WAVE that ends the file: the format and the sound as they were, and a list that holds the title.
+pub record ReadsBack (title : List ℕ) (format sound : Chunk) (new : List ℕ) : Type 0 where
+  pub form : take 12 new ≡ header_bytes riff (codes "RIFF") (length new - 8) ++ codes "WAVE"
+  pub chunks_are : chunks riff_front plain (drop 12 new) ≡ filled (format ∷ sound ∷ list_of title ∷ [])
+  pub items_are : chunks riff_front plain (drop 4 (list_of title).body) ≡ filled (title_item title ∷ [])

@@ -14,6 +14,7 @@ mod top;
 mod words;
 
 pub use outcome::{Outcome, Summary, UsageFault, Why};
+pub use plain::new_file_reads_back;
 pub use text::{code, line_of};
 pub use top::metaedit;
 pub use words::Word;

@@ -1,12 +1,12 @@
 // Whether a file is plain.
 ghost use Rattle.std.specs.Prelude.{◌≡◌, ◌≢◌, ◌↔◌, ◌-◌, ◌+◌, ◌%◌, ◌≤◌, ◌<◌, ◌^◌, ◌++◌, [], List, ℕ, length, take, drop, IsTrue, IfOk, IfSome, MatchOption, codes};
-ghost use Rattle.me_bytes.specs.Bytes.{le};
+ghost use Rattle.me_bytes.specs.Bytes.{IsBytes, le};
 ghost use Rattle.me_disk.specs.Holds.{Holds, Inside};
 ghost use Rattle.me_disk.specs.Steps.{HasCause, ReadsOnly};
 ghost use Rattle.container_model.specs.Chunk.{riff, header_bytes};
 ghost use Rattle.container_model.specs.Written.{slice};
 ghost use Rattle.riff_form.specs.Walk.{InOrder, place_after};
-ghost use Rattle.metaedit_top.specs.Plain.{IsPlain};
+ghost use Rattle.metaedit_top.specs.Plain.{IsPlain, ReadsBack, new_file};
 ghost use Rattle.metaedit_top.specs.Reads.{NextIs, AreSound, HasBlocks};
 
 use crate::title::front_of;
@@ -131,3 +131,9 @@ fn has_blocks<D: Depot>(depot: &mut D, format: &ChunkAt) -> Result<bool, DepotFa
     depot.read_at(Slot::Main, format.body.at, &mut body)?;
     Ok(le16_at(&body, 12) != Some(0))
 }
+
+/// The new file reads back: for each plain file and title it is one form WAVE that ends the file and holds the format and
+/// the sound as they were, byte for byte, and behind them a list `INFO` with the title alone.
+pub fn new_file_reads_back()
+    ensures { (b title : List ℕ) → IsBytes b → (p : IsPlain b) → length title ≤ 1000 → ReadsBack title p.format p.sound (new_file b title) }
+{}
