@@ -1,18 +1,18 @@
 -- Where no table holds a place that moves, the relocation changes nothing.
-use Rattle.std.proofs.Common.{◌≡◌, ℕ, ◌+◌, ◌*◌, ◌^◌, ◌≤◌, Bool, true, false, cond, List, [], ◌∷◌, ◌++◌, length, map, take, drop, replicate, refl, sym, ap, subst, ◌∙◌, arith, inl, inr}
+use Rattle.std.proofs.Common.{◌≡◌, ℕ, ◌^◌, Bool, true, false, cond, List, [], ◌∷◌, ◌++◌, length, map, take, drop, replicate, refl, sym, ap, subst, ◌∙◌, inl, inr}
 use Rattle.std.specs.Prelude.{codes, ◌⊎◌}
 use Rattle.std.specs.List.{flat_map, AllByRecursion}
 use Rattle.std.proofs.lemmas.List.{take-append-drop}
 use Rattle.me_bytes.specs.Bytes.{IsBytes}
 use Rattle.part_tree.specs.declared.field.EditItem.{EditItem}
 use Rattle.part_tree.specs.declared.field.Value.{Value}
-use Rattle.container_model.specs.Chunk.{Form, short, long, pad_len, Chunk, spell_all}
+use Rattle.container_model.specs.Chunk.{short, long, pad_len, Chunk}
 use Rattle.container_model.specs.Deep.{Whole, Leaf, leaves_at, leaves}
 use Rattle.container_model.specs.Items.{Item, put_all, edit_carrier}
-use Rattle.container_model.specs.Rows.{Width, be32, be64, changed}
+use Rattle.container_model.specs.Rows.{Width, be32, be64}
 use Rattle.container_model.specs.Sizes.{inside}
 use Rattle.container_model.specs.Splice.{splice, shift}
-use Rattle.container_model.specs.Units.{padded, shut, lay, solids}
+use Rattle.container_model.specs.Units.{padded, shut, solids}
 use Rattle.container_model.proofs.Atoms.{atoms_give_back}
 use Rattle.container_model.proofs.Codec.{IsBytes-drop}
 use Rattle.container_model.proofs.Items.{same_true}
@@ -25,7 +25,7 @@ use Rattle.mov_model.specs.Atoms.{Place, file, user_data, moov, trak, mdia, minf
 use Rattle.mov_model.specs.User.{user_items, udta}
 use Rattle.mov_model.specs.Tables.{count, rows, with_rows, places_in, moved_body, moved_leaf, relocated, in_stbl, tables, places}
 use Rattle.mov_model.specs.Movie.{Movie, movie_of, fill, fresh, carried, pieces_of, is_open, laid_movie, laid_kids, new_kids, new_movie, edit_cuts, edited_file}
-use Rattle.mov_model.specs.Parts.{parts, track_of, tracks}
+use Rattle.mov_model.specs.Parts.{track_of, tracks}
 use Rattle.mov_model.specs.Support.{Supported}
 use Rattle.mov_model.specs.Edited.{changes, new_file}
 use Rattle.mov_model.specs.Cuts.{TablesStay, unit_cuts}

@@ -4,7 +4,7 @@ use Rattle.std.specs.Int.{w32, w64, to_be_bytes}
 use Rattle.part_tree.specs.declared.field.EditItem.{EditItem}
 use Rattle.part_tree.specs.declared.field.Value.{Value}
 use Rattle.part_tree.specs.declared.plan.Patch.{Patch}
-use Rattle.container_model.specs.Chunk.{Form, short, long, spell_all}
+use Rattle.container_model.specs.Chunk.{Form, short, long, spell, spell_all}
 use Rattle.container_model.specs.Items.{Item, is_nil}
 use Rattle.container_model.specs.Units.{Piece, copied, replaced, Fill, unit_bytes}
 use Rattle.mov_model.specs.Movie.{Movie, movie_of, fill, whole_pieces, ends_file, kids_at, new_movie}
