@@ -12,13 +12,13 @@ use Rattle.me_disk.specs.Calls.{Call}
 use Rattle.me_disk.specs.Calls.Call.{BeginWork, AppendWork, SyncWork, DropWork, InstallMain, InstallJournal, WriteMain, SetMainLen, SyncMain, DropJournal}
 use Rattle.me_disk.proofs.Runs.{same_slots}
 use Rattle.edit_journal.specs.Journal.{spelled}
-use Rattle.edit_journal.specs.Settled.{Settles}
+use Rattle.edit_journal.specs.Settled.{Settles, StandsAlone}
 use Rattle.file_swap.specs.Steps.{Step, Range, block, blocks, cut_in, part, appends, writes, segment_steps, cut_steps, end_steps, steps, calls, install_call, applied, bytes_by, bytes_written}
 use Rattle.file_swap.specs.Steps.Step.{Makes, Reads, Appends}
 use Rattle.file_swap.specs.Plans.{CanRun, Belongs}
 use Rattle.file_swap.specs.Midway.Region.{Old}
 use Rattle.file_swap.specs.Midway.{Region, region_after, region_in, regions, region_at, Phase, IsIn}
-use Rattle.file_swap.specs.Swap.{fresh, StandsAlone, Underway}
+use Rattle.file_swap.specs.Swap.{fresh, Underway}
 use Rattle.file_swap.proofs.Midways.{settles_old, settles_new}
 use Rattle.file_swap.proofs.Written.{by_all}
 

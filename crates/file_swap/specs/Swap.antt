@@ -1,13 +1,13 @@
 -- A swap as its callers see it, and what a run of it leaves.
 use Rattle.std.specs.Prelude.{◌≡◌, ◌≢◌, ℕ, ◌+◌, ◌-◌, ◌≤◌, Bool, false, IsTrue, List, [], Result, OnOk}
-use Rattle.std.specs.declared.option.Option.TheVariants.{Some, None}
+use Rattle.std.specs.declared.option.Option.TheVariants.{None}
 use Rattle.part_tree.specs.declared.plan.Plan.{Plan}
 use Rattle.file_swap.specs.declared.machine.Turn.{Turn}
 use Rattle.file_swap.specs.declared.machine.Turn.TheVariants.{Fault}
 use Rattle.me_disk.specs.declared.depot.DepotFault.{DepotFault}
-use Rattle.me_disk.specs.declared.depot.WorkState.TheVariants.{Closed}
-use Rattle.me_disk.specs.Disk.{Disk, Only, Leaves, plain}
+use Rattle.me_disk.specs.Disk.{Disk, Leaves}
 use Rattle.me_disk.specs.Steps.{Writes, HasCause}
+use Rattle.edit_journal.specs.Settled.{StandsAlone}
 use Rattle.file_swap.specs.Steps.{applied, bytes_by, bytes_written}
 use Rattle.file_swap.specs.Plans.{Belongs}
 use Rattle.file_swap.specs.Midway.{Midway, SettlesEither, held_at}
@@ -36,13 +36,6 @@ pub record TurnWrites (n : ℕ) (old new : Disk) (turn : Turn) : Type 0 where
   pub least : old.written ≤ new.written
   pub most : new.written ≤ old.written + n
   pub exact : turn ≢ Fault → new.written ≡ old.written + n
-
--- The file stands alone: no journal is beside it, nothing is being written, and a crash now leaves it as it is.
-pub record StandsAlone (file : List ℕ) (d : Disk) : Type 0 where
-  pub main : IsTrue d.tells → d.slots.main ≡ Some file
-  pub journal : IsTrue d.tells → d.slots.journal ≡ None
-  pub state : d.work_state ≡ Closed
-  pub only : Only (plain (Some file)) d
 
 -- A run from old to new on this file. At Ok the new file stands alone, and no `Work` is left. Each image that a crash at some
 -- moment of it might have left stands for the old file or for the new one.
