@@ -1,0 +1,182 @@
+-- The law: for every edit that names fields and keeps the rules, after which nothing is too large, the new file is the old one edited.
+use Rattle.std.proofs.Common.{◌≡◌, ℕ, suc, ◌^◌, ◌<◌, ◌≤◌, Bool, true, false, cond, List, [], ◌∷◌, ◌++◌, length, map, Option, Some, None, refl, sym, ap, subst, ◌∙◌, arith}
+use Rattle.std.specs.Prelude.{◌||◌}
+use Rattle.std.specs.Str.{bytes_eq}
+use Rattle.std.specs.List.{filter_map, list_any, AllByRecursion}
+use Rattle.me_bytes.specs.Bytes.{IsBytes}
+use Rattle.part_tree.specs.Names.{same_name}
+use Rattle.part_tree.specs.declared.field.EditItem.{EditItem}
+use Rattle.part_tree.specs.declared.field.FieldName.{FieldName}
+use Rattle.part_tree.specs.declared.field.FieldName.TheVariants.{Bext, Info, Whole, User}
+use Rattle.part_tree.specs.declared.field.RuleSet.TheVariants.{Base}
+use Rattle.part_tree.specs.declared.field.Value.{Value}
+use Rattle.part_tree.specs.declared.names.Kind.TheVariants.{Avi}
+use Rattle.field_model.specs.Broken.{broken}
+use Rattle.field_model.specs.Fields.{plain}
+use Rattle.field_model.specs.Update.{RawItem, effective, raw_item, raw_items, updated_values, is_bext, update}
+use Rattle.container_model.specs.Items.{updated}
+use Rattle.container_model.specs.Splice.{shift}
+use Rattle.container_model.proofs.Items.{same_true, same_refl}
+use Rattle.carrier_model.specs.Info.{SetsInfo}
+use Rattle.carrier_model.specs.Lists.{Node, place_lists, place_by, place_nth, part_of, has_list}
+use Rattle.avi_model.specs.Avi.{Avi as AviFile, avi_of, inner, hdrls}
+use Rattle.avi_model.specs.Index.{move, writes}
+use Rattle.avi_model.specs.Pieces.{pieces}
+use Rattle.avi_model.specs.Support.{Supported, movis}
+use Rattle.avi_model.specs.NewFile.{Items, home, new_children, edit_cuts, laid, laid_file, edited_file}
+use Rattle.avi_model.specs.Kept.{Kept, kept, placed}
+use Rattle.avi_model.specs.Edited.{info_values, fields, info_item, info_edit, changes, new_file, AreNamed, Edited}
+use Rattle.avi_model.specs.Large.{too_large_by, too_large, new_avi}
+use Rattle.avi_model.proofs.Read.{renewed_avi}
+use Rattle.avi_model.proofs.Frames.{again as read_again}
+use Rattle.avi_model.proofs.Essence.{facts}
+use Rattle.avi_model.proofs.Fit.{Fits, fits_of}
+use Rattle.avi_model.proofs.Kept.{fields_updated, kept_placed, pieces_same}
+use Rattle.avi_model.proofs.Lists.{new_begins, new_forms_end, new_forms_read, new_forms_long, new_hdrls, new_lists_end, new_movis}
+use Rattle.avi_model.proofs.Supports.{new_streams_sound, new_places_sound, new_few_indexes, new_indexes_apart, new_entries_sound}
+use Rattle.avi_model.proofs.OldIndex.{new_based, new_rows_sound}
+use Rattle.avi_model.proofs.Rules.{IsInfoName, HasNoLanguage, AreInfo, items_give}
+
+-- what an edit of items is to the old file
+pub record EditedBy (o : List ℕ) (e : Items) (n : List ℕ) : Type 0 where
+  pub supported : Supported n
+  pub values : (id : List ℕ) → info_values n id ≡ updated e id (info_values o id)
+  pub kept_in_order : kept n ≡ placed (kept o) e
+  pub same_pieces : pieces n ≡ pieces o
+
+-- ---- without an item
+
+place_none : (h : List ℕ → ℕ) (n : ℕ) (k : List Node) → place_nth {V = List ℕ} h [] n k ≡ k
+place_none h n [] = refl
+place_none h n (Node.list ts rest ∷ k) = ap (λ (x : List Node). Node.list ts rest ∷ x) (place_none h (suc n) k)
+place_none h n (Node.sign id ∷ k) = ap (λ (x : List Node). Node.sign id ∷ x) (place_none h n k)
+place_none h n (Node.other form id body ∷ k) = ap (λ (x : List Node). Node.other form id body ∷ x) (place_none h n k)
+
+placed_none : (k : Kept) → placed k [] ≡ k
+placed_none k = ap (λ (x : List Node). record k { nodes = x }) (go (has_list k.nodes))
+  where
+    go : (t : Bool) → place_by {V = List ℕ} home [] k.nodes t ≡ k.nodes
+    go true = place_none (Rattle.carrier_model.specs.Lists.home (Rattle.carrier_model.specs.Lists.node_items k.nodes)) 0 k.nodes
+    go false = refl
+
+nothing_done : (o : List ℕ) → Supported o → EditedBy o [] o
+nothing_done o s = record { supported = s; values = λ id. refl; kept_in_order = sym (placed_none (kept o)); same_pieces = refl }
+
+-- ---- with items
+
+module _ (o : List ℕ) (bytes : IsBytes o) (s : Supported o) (e : Items) (fit : Fits o e) (sets : SetsInfo e) where
+  new_is : new_avi o e ≡ laid (renewed_avi (writes (move (shift (edit_cuts (avi_of o) e))) o) (avi_of o)) e
+  new_is = ap (λ (x : AviFile). laid x e) (read_again o bytes s (move (shift (edit_cuts (avi_of o) e))))
+
+  small : length (inner (new_children (renewed_avi (writes (move (shift (edit_cuts (avi_of o) e))) o) (avi_of o)) e) (avi_of o).left) < 2 ^ 32
+  small = omega (arith, fit.form_short, ap (λ (x : AviFile). length (inner x.children x.left)) new_is)
+
+  reads : avi_of (laid_file o e) ≡ new_avi o e
+  reads = (facts o bytes s e small).new_reads ∙ sym new_is
+
+  new_supported : Supported (laid_file o e)
+  new_supported =
+      let r = (facts o bytes s e small).new_reads in
+      record {
+        is_avi = new_begins o bytes s e small sets;
+        forms_end = new_forms_end o bytes s e small sets;
+        forms_long = new_forms_long o bytes s e small sets;
+        forms_read = new_forms_read o bytes s e small sets;
+        lists_end = subst (λ (x : AviFile). AllByRecursion Rattle.avi_model.specs.Support.ListEnds (Rattle.avi_model.specs.Support.opened x)) (sym r) (new_lists_end o bytes s e small sets);
+        few_parts = subst (λ (x : AviFile). Rattle.avi_model.specs.Support.parts x ≤ Rattle.avi_model.specs.Support.part_limit) (sym reads) fit.few_parts;
+        lists_small = subst (λ (x : AviFile). AllByRecursion (λ y. length y.chunk.body ≤ Rattle.avi_model.specs.Support.list_limit) (Rattle.avi_model.specs.Support.infos x)) (sym reads) fit.lists_short;
+        some_hdrl = omega (arith, s.some_hdrl, ap (λ (x : AviFile). length (hdrls x)) r, new_hdrls o bytes s e small sets);
+        some_movi = omega (arith, s.some_movi, ap (λ (x : AviFile). length (movis x)) r, new_movis o bytes s e small sets);
+        streams_sound = new_streams_sound o bytes s e small sets fit;
+        places_sound = new_places_sound o bytes s e small sets fit;
+        few_indexes = new_few_indexes o bytes s e small sets fit;
+        indexes_apart = new_indexes_apart o bytes s e small sets fit;
+        entries_sound = new_entries_sound o bytes s e small sets fit;
+        based = new_based o bytes s e small sets fit;
+        rows_sound = new_rows_sound o bytes s e small sets fit;
+      }
+
+  some_done : EditedBy o e (laid_file o e)
+  some_done = record {
+    supported = new_supported;
+    values = λ id. fields_updated o bytes s e small sets id;
+    kept_in_order = kept_placed o bytes s e small sets fit;
+    same_pieces = pieces_same o bytes s e small sets fit;
+  }
+
+pub items_law : (o : List ℕ) (e : Items) → IsBytes o → Supported o → SetsInfo e → too_large_by o e ≡ None → EditedBy o e (edited_file o e)
+items_law o [] bytes s sets none = nothing_done o s
+items_law o (i ∷ e) bytes s sets none = some_done o bytes s (i ∷ e) (fits_of o i e none) sets
+
+-- ---- the fields
+
+same_either : (a b : List ℕ) → bytes_eq a b ≡ bytes_eq b a
+same_either a b = go (bytes_eq a b) (bytes_eq b a) refl refl
+  where
+    go : (t u : Bool) → bytes_eq a b ≡ t → bytes_eq b a ≡ u → t ≡ u
+    go true true e i = refl
+    go false false e i = refl
+    go true false e i = let same : a ≡ b = same_true a b e in let yes : bytes_eq b a ≡ true = rw same (same_refl b) in absurd cc
+    go false true e i = let same : b ≡ a = same_true b a i in let yes : bytes_eq a b ≡ true = rw same (same_refl a) in absurd cc
+
+-- the values of an INFO field
+values_same : (rs : List RawItem) (id : _) (vs : List (List ℕ)) → AreInfo rs → map plain (updated (info_edit rs) id.0 vs) ≡ updated_values rs (Info id) (map plain vs)
+values_same [] id vs u = refl
+values_same (r ∷ rs) id vs u = go r.name r.value u.0.0 u.0.1 (λ ws. values_same rs id ws u.1)
+  where
+    choose : (t : Bool) (xs : List (List ℕ)) → map plain (cond t xs vs) ≡ cond t (map plain xs) (map plain vs)
+    choose true xs = refl
+    choose false xs = refl
+
+    go : (name : FieldName) (value : Option Value) → IsInfoName name → HasNoLanguage value → ((ws : List (List ℕ)) → map plain (updated (info_edit rs) id.0 ws) ≡ updated_values rs (Info id) (map plain ws))
+        → map plain (updated (info_item name value ++ info_edit rs) id.0 vs) ≡ updated_values rs (Info id) (cond (same_name name (Info id)) (Rattle.field_model.specs.Update.listed value) (map plain vs))
+    go (Bext field) value u l again = absurd u
+    go (User j) value u l again = absurd u
+    go (Whole j) value u l again = absurd u
+    go (Info j) None u l again =
+        again (cond (bytes_eq id.0 j.0) [] vs) ∙ ap (updated_values rs (Info id)) (choose (bytes_eq id.0 j.0) []) ∙ ap (λ (t : Bool). updated_values rs (Info id) (cond t [] (map plain vs))) (same_either id.0 j.0)
+    go (Info j) (Some v) u l again =
+        again (cond (bytes_eq id.0 j.0) (v.raw ∷ []) vs) ∙ ap (updated_values rs (Info id)) (choose (bytes_eq id.0 j.0) (v.raw ∷ [])) ∙ ap (λ (t : Bool). updated_values rs (Info id) (cond t (plain v.raw ∷ []) (map plain vs))) (same_either id.0 j.0)
+        ∙ ap (λ (x : Value). updated_values rs (Info id) (cond (bytes_eq j.0 id.0) (x ∷ []) (map plain vs))) (sym l)
+
+-- no other name has values
+other_name : (name : FieldName) → (IsInfoName name → ⊥) → (rs : List RawItem) → AreInfo rs → updated_values rs name [] ≡ []
+other_name name n [] u = refl
+other_name name n (r ∷ rs) u = ap (λ (t : Bool). updated_values rs name (cond t (Rattle.field_model.specs.Update.listed r.value) [])) (apart r.name name u.0.0 n) ∙ other_name name n rs u.1
+  where
+    apart : (a b : FieldName) → IsInfoName a → (IsInfoName b → ⊥) → same_name a b ≡ false
+    apart (Info a) (Info b) u n = absurd (n tt)
+    apart (Info a) (Bext b) u n = refl
+    apart (Info a) (User b) u n = refl
+    apart (Info a) (Whole b) u n = refl
+    apart (Bext a) b u n = absurd u
+    apart (User a) b u n = absurd u
+    apart (Whole a) b u n = absurd u
+
+no_bext : (rs : List RawItem) → AreInfo rs → list_any (λ (i : RawItem). is_bext i.name) rs ≡ false
+no_bext [] u = refl
+no_bext (r ∷ rs) u = go r.name u.0.0 (no_bext rs u.1)
+  where
+    go : (name : FieldName) → IsInfoName name → list_any (λ (i : RawItem). is_bext i.name) rs ≡ false → (is_bext name || list_any (λ (i : RawItem). is_bext i.name) rs) ≡ false
+    go (Info id) u again = again
+    go (Bext field) u again = absurd u
+    go (User id) u again = absurd u
+    go (Whole id) u again = absurd u
+
+pub edit_law : (o : List ℕ) (e : List EditItem) → IsBytes o → Supported o → AreNamed e → broken Avi (fields o) e Base ≡ None → too_large o e ≡ None → Edited o e (new_file o e)
+edit_law o e bytes s named rules small =
+    let g = items_give (fields o) e named rules in
+    let by = items_law o (changes o e) bytes s g.1 small in
+    record {
+      supported = by.supported;
+      reads_back = read by.values g.0;
+      kept_in_order = by.kept_in_order;
+      same_pieces = by.same_pieces;
+      no_effect = λ none. ap (λ (x : Items). edited_file o x) (ap (λ (items : List EditItem). info_edit (filter_map raw_item items)) none);
+    }
+  where
+    read : ((id : List ℕ) → info_values (new_file o e) id ≡ updated (changes o e) id (info_values o id)) → AreInfo (raw_items (fields o) e) → (name : FieldName) → fields (new_file o e) name ≡ update (fields o) e name
+    read v g (Info id) = ap (map plain) (v id.0) ∙ values_same (raw_items (fields o) e) id (info_values o id.0) g
+    read v g (Whole id) = sym (other_name (Whole id) (λ x. x) (raw_items (fields o) e) g)
+    read v g (User id) = sym (other_name (User id) (λ x. x) (raw_items (fields o) e) g)
+    read v g (Bext field) = sym (Rattle.std.proofs.lemmas.Bool.cond-false (list_any (λ (i : RawItem). is_bext i.name) (raw_items (fields o) e)) _ _ (no_bext (raw_items (fields o) e) g))

@@ -1,0 +1,167 @@
+-- Which AVI files are supported: every list that is opened is whole, and every index entry names bytes of the essence.
+use Rattle.std.specs.Prelude.{◌≡◌, ℕ, ◌+◌, ◌*◌, ◌<◌, ◌≤◌, ◌==◌, nat_le, nat_lt, List, [], ◌∷◌, ◌++◌, length, map, take, drop, Bool, true, false, ◌&&◌, ◌||◌, not, codes, if◌then◌else◌}
+use Rattle.std.specs.Str.{bytes_eq}
+use Rattle.std.specs.List.{AllByRecursion}
+use Rattle.std.specs.Int.{w32, from_le_bytes}
+use Rattle.container_model.specs.Chunk.{ends}
+use Rattle.container_model.specs.Stood.{Stood, only}
+use Rattle.container_model.specs.Written.{slice}
+use Rattle.carrier_model.specs.Info.{is_type, list_run}
+use Rattle.avi_model.specs.Avi.{forms, Avi, avi_of, top, others_at, hdrls, strls, is_movi, essence, Span, body_span, first_movi}
+use Rattle.avi_model.specs.Index.{Table, is_super, width, used, entries, super_places, streams, named, indexes, entry_offset, entry_length, entry_second, has_second, index_base, row_id, row_offset, row_length, decides, Base, from_start, from_movi, base, old_rows, olds, within, is_head, misses}
+
+-- ---- chunks
+
+-- the first bytes say RIFF and AVI
+abbrev pub begins : List ℕ → Bool
+begins b = nat_le 12 (length b) && (bytes_eq (take 4 b) (codes "RIFF") && bytes_eq (take 4 (drop 8 b)) (codes "AVI "))
+
+-- the lists of the first form that hold fields
+abbrev pub infos : Avi → List Stood
+infos a = only (is_type (codes "INFO")) (top a)
+
+abbrev pub movis : Avi → List Stood
+movis a = only is_movi (top a)
+
+-- a list or a form whose chunks end with it
+abbrev pub ListEnds : Stood → Type 0
+ListEnds x = (list_run x.chunk).stop ≡ ends
+
+-- the lists of the first form that are opened
+abbrev pub opened : Avi → List Stood
+opened a = hdrls a ++ (strls a ++ infos a)
+
+abbrev pub count_kids : List Stood → ℕ
+count_kids [] = 0
+count_kids (x ∷ xs) = length (list_run x.chunk).chunks + count_kids xs
+
+-- the chunks of each form and of each list that is opened
+abbrev pub parts : Avi → ℕ
+parts a = length a.children + count_kids (opened a) + count_kids (others_at a)
+
+abbrev pub part_limit : ℕ
+part_limit = 65536
+
+abbrev pub list_limit : ℕ
+list_limit = 16777216
+
+-- ---- index chunks (OpenDML AVI File Format Extensions 1.02, AVISUPERINDEX and AVISTDINDEX)
+
+-- the longs of an entry, the subtype and the type
+abbrev pub kind : List ℕ → List ℕ
+kind body = slice body 0 4
+
+abbrev pub is_super_kind : List ℕ → Bool
+is_super_kind body = bytes_eq (kind body) (4 ∷ 0 ∷ 0 ∷ 0 ∷ []) || bytes_eq (kind body) (4 ∷ 0 ∷ 1 ∷ 0 ∷ [])
+
+abbrev pub is_standard_kind : List ℕ → Bool
+is_standard_kind body = bytes_eq (kind body) (2 ∷ 0 ∷ 0 ∷ 1 ∷ []) || bytes_eq (kind body) (3 ∷ 0 ∷ 1 ∷ 1 ∷ [])
+
+abbrev pub is_index_kind : List ℕ → Bool
+is_index_kind body = is_super_kind body || is_standard_kind body
+
+abbrev pub has_header : List ℕ → Bool
+has_header body = nat_le 24 (length body)
+
+abbrev pub has_entries : List ℕ → Bool
+has_entries body = nat_le (24 + width body * used body) (length body)
+
+-- the body of an index chunk: its header is there, it is of a kind, and its entries are there
+pub record SoundIndex (of_kind : List ℕ → Bool) (body : List ℕ) : Type 0 where
+  pub header_is_there : has_header body ≡ true
+  pub kind_is : of_kind body ≡ true
+  pub entries_are_there : has_entries body ≡ true
+
+-- a range lies inside one of these
+abbrev pub in_one : List Span → ℕ → ℕ → Bool
+in_one [] p n = false
+in_one (s ∷ ss) p n = within s p n || in_one ss p n
+
+-- the bodies of the movi lists
+abbrev pub movi_spans : Avi → List Span
+movi_spans a = map body_span (essence a)
+
+-- the size field of the chunk at a place
+abbrev pub size_at : List ℕ → ℕ → ℕ
+size_at b p = from_le_bytes w32 (slice b (p + 4) 4)
+
+-- a place that a super entry names: a standard index stands there, whole inside one movi body
+pub record SoundPlace (b : List ℕ) (p : ℕ) : Type 0 where
+  pub lies : in_one (movi_spans (avi_of b)) p (8 + size_at b p) ≡ true
+  pub sound : SoundIndex is_standard_kind (named b p).body
+
+-- ---- index chunks by place
+
+abbrev pub put_by_place : Table → List Table → List Table
+put_by_place t [] = t ∷ []
+put_by_place t (u ∷ us) = if nat_lt t.at u.at then t ∷ (u ∷ us) else u ∷ put_by_place t us
+
+abbrev pub by_place : List Table → List Table
+by_place [] = []
+by_place (t ∷ ts) = put_by_place t (by_place ts)
+
+-- no index chunk begins before the one before it ends
+abbrev pub Apart : ℕ → List Table → Type 0
+Apart from [] = Unit {0}
+Apart from (t ∷ ts) = (nat_lt t.at (from + 8) ≡ false) × Apart (t.at + length t.body) ts
+
+-- ---- entries
+
+-- a second place is at or behind the entry's and before its end
+abbrev pub second_lies : List ℕ → Bool
+second_lies r = not (has_second r) || (nat_le (entry_offset r) (entry_second r) && nat_lt (entry_second r) (entry_offset r + entry_length r))
+
+abbrev pub entry_lies : Avi → ℕ → List ℕ → Bool
+entry_lies a base r = in_one (movi_spans a) (base + entry_offset r) (entry_length r) && second_lies r
+
+-- a standard entry that is counted
+pub record SoundEntry (b : List ℕ) (base : ℕ) (r : List ℕ) : Type 0 where
+  pub lies : entry_lies (avi_of b) base r ≡ true
+  pub clear : misses (indexes b) (base + entry_offset r) (entry_length r) ≡ true
+
+abbrev pub SoundEntries : List ℕ → Table → Type 0
+SoundEntries b t = AllByRecursion (λ r. (entry_length r == 0) ≡ false → SoundEntry b (index_base t.body) r) (entries t.body)
+
+-- ---- idx1
+
+-- an entry's identifier stands at a place, as that of an index chunk or outside them
+abbrev pub stands_at : List ℕ → List Table → List ℕ → ℕ → Bool
+stands_at b ts r p = bytes_eq (slice b p 4) (row_id r) && (is_head ts p || misses ts p 4)
+
+abbrev pub based_by : List ℕ → List Table → Span → List ℕ → Bool → Bool
+based_by b ts movi r true = within movi (movi.at + row_offset r) 4 && stands_at b ts r (movi.at + row_offset r)
+based_by b ts movi r false = stands_at b ts r (row_offset r)
+
+-- the first entry that has bytes and is no list has the base that its offset says
+abbrev pub is_based : List ℕ → List Table → Span → List (List ℕ) → Bool
+is_based b ts movi [] = true
+is_based b ts movi (r ∷ rs) = if decides r then based_by b ts movi r (nat_lt (row_offset r) movi.at) else is_based b ts movi rs
+
+-- an entry from the file's start that has bytes lies inside the first movi, and its bytes in no index chunk
+pub record SoundRow (movi : Span) (ts : List Table) (r : List ℕ) : Type 0 where
+  pub lies : within movi (row_offset r) (8 + row_length r) ≡ true
+  pub clear : (is_head ts (row_offset r) || misses ts (row_offset r + 8) (row_length r)) ≡ true
+
+abbrev pub SoundRows : Base → Span → List Table → Table → Type 0
+SoundRows from_start movi ts t = AllByRecursion (λ r. (row_length r == 0) ≡ false → SoundRow movi ts r) (old_rows t.body)
+SoundRows from_movi movi ts t = Unit {0}
+
+-- ---- a file
+
+pub record Supported (b : List ℕ) : Type 0 where
+  pub is_avi : begins b ≡ true
+  pub forms_end : (forms b).stop ≡ ends
+  pub forms_long : AllByRecursion (λ c. 4 ≤ length c.body) (forms b).chunks
+  pub forms_read : AllByRecursion (λ c. (list_run c).stop ≡ ends) (forms b).chunks
+  pub lists_end : AllByRecursion ListEnds (opened (avi_of b))
+  pub few_parts : parts (avi_of b) ≤ part_limit
+  pub lists_small : AllByRecursion (λ x. length x.chunk.body ≤ list_limit) (infos (avi_of b))
+  pub some_hdrl : 0 < length (hdrls (avi_of b))
+  pub some_movi : 0 < length (movis (avi_of b))
+  pub streams_sound : AllByRecursion (λ t. SoundIndex is_index_kind t.body) (streams b)
+  pub places_sound : AllByRecursion (λ t. is_super t.body ≡ true → AllByRecursion (SoundPlace b) (super_places t.body)) (streams b)
+  pub few_indexes : length (indexes b) ≤ part_limit
+  pub indexes_apart : Apart 0 (by_place (indexes b))
+  pub entries_sound : AllByRecursion (λ t. is_super t.body ≡ false → SoundEntries b t) (indexes b)
+  pub based : AllByRecursion (λ t. is_based b (indexes b) (first_movi (avi_of b)) (old_rows t.body) ≡ true) (olds b)
+  pub rows_sound : AllByRecursion (SoundRows (base b) (first_movi (avi_of b)) (indexes b)) (olds b)

@@ -1,0 +1,23 @@
+//! What an AVI file is, what an edit of its fields makes of it, and the laws of the edited file.
+//! The forms and lists are those of RIFF (Microsoft and IBM, Multimedia Programming Interface and Data Specifications
+//! 1.0) and of AVI, the indexes those of OpenDML (AVI File Format Extensions 1.02). It knows no device and no code.
+#![tactic(auto)]
+
+ghost use Rattle.std.specs.Prelude.{◌≡◌, ℕ, List, length, None};
+ghost use Rattle.me_bytes.specs.Bytes.{IsBytes};
+ghost use Rattle.part_tree.specs.declared.field.EditItem.{EditItem};
+ghost use Rattle.part_tree.specs.declared.field.RuleSet.TheVariants.{Base};
+ghost use Rattle.part_tree.specs.declared.names.Kind.TheVariants.{Avi};
+ghost use Rattle.field_model.specs.Broken.{broken};
+ghost use Rattle.avi_model.specs.Support.{Supported};
+ghost use Rattle.avi_model.specs.Edited.{AreNamed, Edited, fields, new_file};
+ghost use Rattle.avi_model.specs.Large.{too_large};
+
+use part_tree as _;
+
+/// For every supported AVI file and every edit of fields that keeps the rules of Base, and after which nothing is too
+/// large, the new file is the old one edited. It holds for both bases of `idx1`, and for OpenDML indexes in any number of
+/// forms.
+pub fn new_is_edited()
+    ensures { (o : List ℕ) (e : List EditItem) → IsBytes o → Supported o → AreNamed e → broken Avi (fields o) e Base ≡ None → too_large o e ≡ None → Edited o e (new_file o e) }
+{}
