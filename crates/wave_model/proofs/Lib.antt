@@ -1,0 +1,16 @@
+pub mod Rows
+pub mod Read
+pub mod Steps
+pub mod Acts
+pub mod Nodes
+pub mod Ready
+pub mod Values
+pub mod Bext
+pub mod Again
+pub mod Ds64
+pub mod Form
+pub mod Cells
+pub mod New
+pub mod Edited
+pub mod Items
+pub mod Law
