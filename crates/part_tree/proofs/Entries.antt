@@ -1,6 +1,6 @@
 -- Adding a value to the entries of fields.
 use Rattle.std.proofs.Common.{◌≡◌, ℕ, zero, suc, ◌+◌, ◌<◌, ◌≤◌, List, [], ◌∷◌, ◌++◌, length, get_or, set, Bool, true, false, refl, sym, ap, ◌∙◌, arith, nat_le, subst, inl, inr, if◌then◌else◌, cond, not, length-append}
-use Rattle.std.specs.Prelude.{◌⊎◌, insert, Result, is_ok, Ok, Err, OnOk}
+use Rattle.std.specs.Prelude.{◌⊎◌, insert, remove, Result, is_ok, Ok, Err, OnOk}
 use Rattle.std.specs.List.{position_or_len}
 use Rattle.std.proofs.lemmas.Bool.{leb-true, leb-false, cond-true, cond-false, cases_order}
 use Rattle.std.proofs.lemmas.List.{get_or_default}
@@ -8,7 +8,7 @@ use Rattle.std.proofs.lemmas.List.Sums.{fails_before_first}
 use Rattle.part_tree.specs.declared.field.FieldName.{FieldName}
 use Rattle.part_tree.specs.declared.field.Value.{Value}
 use Rattle.part_tree.specs.declared.fields.Entry.{Entry}
-use Rattle.part_tree.specs.Fields.{values, Ascends, IsMap, Adds}
+use Rattle.part_tree.specs.Fields.{values, Ascends, IsMap, Adds, Replaces}
 use Rattle.part_tree.specs.Names.{IsFieldName, field_place, same_name}
 use Rattle.part_tree.proofs.Places.{same_is_equal, same_refl, place_is_same}
 
@@ -212,3 +212,82 @@ absent_at es k name here is miss d inside = ap (λ (e : Entry). same_name e.name
 -- an entry is read twice
 pub same_item : (es : List Entry) (k : ℕ) (a b : Entry) → a ≡ get_or es k a → b ≡ get_or es k b → k < length es → a ≡ b
 same_item es k a b ha hb inside = ha ∙ get_or_default es k a b inside ∙ sym hb
+
+-- ---- one value for a name, or none
+
+ascends_weak : (low more : ℕ) (es : List Entry) → low ≤ more → Ascends more es → Ascends low es
+ascends_weak low more [] le h = tt
+ascends_weak low more (e ∷ es) le h = (omega (arith, h.0), h.1, h.2, h.3)
+
+ascends_remove : (low : ℕ) (es : List Entry) (k : ℕ) → Ascends low es → k < length es → Ascends low (remove es k)
+ascends_remove low [] k h lt = absurd (omega arith)
+ascends_remove low (e ∷ es) zero h lt = ascends_weak low (suc (field_place e.name)) es (omega (arith, h.0)) h.3
+ascends_remove low (e ∷ es) (suc k) h lt = (h.0, h.1, h.2, ascends_remove (suc (field_place e.name)) es k h.3 (omega arith))
+
+-- the name that is taken away has no values then
+remove_only : (low : ℕ) (es : List Entry) (k : ℕ) (name : FieldName) (d : Entry) → Ascends low es → k < length es → (get_or es k d).name ≡ name
+    → ((j : ℕ) → j < k → field_place (get_or es j d).name < field_place name) → values (remove es k) name ≡ []
+remove_only low [] k name d h lt same before = absurd (omega arith)
+remove_only low (e ∷ es) zero name d h lt same before = values_none es name (suc (field_place e.name)) h.3 (omega (arith, ap field_place same))
+remove_only low (e ∷ es) (suc k) name d h lt same before =
+    cond-false (same_name e.name name) e.values _ (other_place e.name name (before 0 (omega arith)))
+    ∙ remove_only (suc (field_place e.name)) es k name d h.3 (omega arith) same (λ j less. before (suc j) (omega arith))
+
+remove_others : (es : List Entry) (k : ℕ) (other : FieldName) (d : Entry) → k < length es → same_name (get_or es k d).name other ≡ false → values (remove es k) other ≡ values es other
+remove_others [] k other d lt miss = absurd (omega arith)
+remove_others (e ∷ es) zero other d lt miss = sym (cond-false (same_name e.name other) e.values _ miss)
+remove_others (e ∷ es) (suc k) other d lt miss = ap (λ (ws : List Value). if same_name e.name other then e.values else ws) (remove_others es k other d (omega arith) miss)
+
+-- all entries before the place of a name stand before it
+before_front : (es : List Entry) (k : ℕ) (name : FieldName) (d : Entry) → k ≡ front_len (field_place name) es → (j : ℕ) → j < k → field_place (get_or es j d).name < field_place name
+before_front es k name d at j less = leb-false (field_place name) (field_place (get_or es j d).name) (fails_before_first (stands_at (field_place name)) es j d (omega (arith, at)))
+
+pub removed_entry : (es : List Entry) (k : ℕ) (name : FieldName) (here : Entry) → IsMap es → k < length es → k ≡ front_len (field_place name) es → here ≡ get_or es k here → same_name here.name name ≡ true
+    → IsMap (remove es k) × Replaces es (remove es k) name []
+removed_entry es k name here h inside at is hit =
+    let same = ap (λ (e : Entry). e.name) (sym is) ∙ same_is_equal here.name name hit in (
+      ascends_remove 0 es k h inside,
+      record {
+        only = remove_only 0 es k name here h inside same (before_front es k name here at);
+        others = λ other miss. remove_others es k other here inside (ap (λ n. same_name n other) same ∙ miss);
+      },
+    )
+
+pub only_entry : (es : List Entry) (k : ℕ) (name : FieldName) (vs : List Value) (here : Entry) → IsMap es → k < length es → 0 < length vs → k ≡ front_len (field_place name) es → here ≡ get_or es k here → same_name here.name name ≡ true
+    → IsMap (set es k (entry name vs)) × Replaces es (set es k (entry name vs)) name vs
+only_entry es k name vs here h inside some at is hit =
+    let same = ap (λ (e : Entry). e.name) (sym is) ∙ same_is_equal here.name name hit in
+    let G : FieldName → Type 0 = λ n. IsMap (set es k (entry n vs)) × Replaces es (set es k (entry n vs)) name vs in
+    subst G same (
+      ascends_set 0 es k vs here h inside some,
+      record {
+        only = (values_set es k vs name here inside same (before_front es k name here at)).0;
+        others = λ other miss. values_set_other es k vs other here inside (ap (λ n. same_name n other) same ∙ miss);
+      },
+    )
+
+pub new_entry : (es : List Entry) (k : ℕ) (name : FieldName) (vs : List Value) → IsMap es → IsFieldName name → 0 < length vs → k ≡ front_len (field_place name) es → Absent es k name
+    → IsMap (insert es k (entry name vs)) × Replaces es (insert es k (entry name vs)) name vs
+new_entry es k name vs h is some at absent =
+    let A : ℕ → Type 0 = λ k. Absent es k name in
+    let put = puts_in 0 es name vs h (omega arith) is some (subst A at absent) in
+    let G : ℕ → Type 0 = λ k. IsMap (insert es k (entry name vs)) × Replaces es (insert es k (entry name vs)) name vs in
+    subst G (sym at) (put.ascends, record { only = put.now; others = put.others })
+
+-- a name that isn't there has no values
+pub absent_entry : (es : List Entry) (k : ℕ) (name : FieldName) → IsMap es → IsFieldName name → k ≡ front_len (field_place name) es → Absent es k name → Replaces es es name []
+absent_entry es k name h is at absent =
+    let A : ℕ → Type 0 = λ k. Absent es k name in
+    let v : Value = record { lang = 0; raw = [] } in
+    record { only = (puts_in 0 es name (v ∷ []) h (omega arith) is (omega arith) (subst A at absent)).was; others = λ other miss. refl }
+
+-- the same, where the entry was put in or there was no memory
+pub new_beside : (es : List Entry) (k : ℕ) (name : FieldName) (vs : List Value) (items : List Entry) (ok : Bool)
+    → IsMap es → IsFieldName name → 0 < length vs → k ≡ front_len (field_place name) es → Absent es k name → items ≡ (if ok then insert es k (entry name vs) else es)
+    → IsMap items × (ok ≡ true → Replaces es items name vs)
+new_beside es k name vs items true h is some at absent made =
+    let z = new_entry es k name vs h is some at absent in
+    let M : List Entry → Type 0 = λ xs. IsMap xs in
+    let R : List Entry → Type 0 = λ xs. Replaces es xs name vs in
+    (subst M (sym made) z.0, λ yes. subst R (sym made) z.1)
+new_beside es k name vs items false h is some at absent made = let M : List Entry → Type 0 = λ xs. IsMap xs in (subst M (sym made) h, λ no. absurd cc)

@@ -1,5 +1,5 @@
 -- The fields of a file as a list: one entry for each name that has a value, in field order, with its values in file order.
-use Rattle.std.specs.Prelude.{◌≡◌, ◌<◌, ◌≤◌, ℕ, suc, List, [], ◌∷◌, ◌++◌, length, map, false, if◌then◌else◌}
+use Rattle.std.specs.Prelude.{◌≡◌, ◌<◌, ◌≤◌, ℕ, suc, List, [], ◌∷◌, ◌++◌, length, map, false, if◌then◌else◌, Option, Some, None}
 use Rattle.part_tree.specs.declared.field.FieldName.{FieldName}
 use Rattle.part_tree.specs.declared.field.Value.{Value}
 use Rattle.part_tree.specs.declared.fields.Entry.{Entry}
@@ -26,3 +26,13 @@ IsMap es = Ascends 0 es
 pub record Adds (old new : List Entry) (name : FieldName) (value : Value) : Type 0 where
   pub last : values new name ≡ values old name ++ value ∷ []
   pub others : (other : FieldName) → same_name name other ≡ false → values new other ≡ values old other
+
+-- a name gets these values, and all other names keep theirs
+pub record Replaces (old new : List Entry) (name : FieldName) (vs : List Value) : Type 0 where
+  pub only : values new name ≡ vs
+  pub others : (other : FieldName) → same_name name other ≡ false → values new other ≡ values old other
+
+-- the values that there are where there is one, and where there is none
+abbrev pub listed : Option Value → List Value
+listed None = []
+listed (Some v) = v ∷ []

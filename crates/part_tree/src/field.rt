@@ -1,5 +1,5 @@
 // The names of fields, the items of an edit, and the rules' sets.
-ghost use Rattle.std.specs.Prelude.{◌≡◌, ◌+◌, ◌<◌, ◌≤◌, ◌^◌, length, List, ℕ, map};
+ghost use Rattle.std.specs.Prelude.{◌≡◌, ◌+◌, ◌<◌, ◌≤◌, ◌^◌, length, List, ℕ, IfOk};
 ghost use Rattle.std.specs.List.{position_or_len};
 ghost use Rattle.std.specs.Str.{bytes_eq};
 ghost use Rattle.me_bytes.specs.Bytes.{be};
@@ -7,7 +7,8 @@ ghost use Rattle.part_tree.specs.Names.{bext_row, field_place, is_field_name, is
 
 use crate::bytes::Bytes;
 use crate::names::FourCc;
-use me_bytes::be32_at;
+use me_bytes::{NoMemory, be32_at};
+use std::alloc::Global;
 
 /// The fields of the chunk `bext`, in its order (EBU Tech 3285).
 #[derive(Clone, Copy, Debug, PartialEq, Eq)]
@@ -172,6 +173,19 @@ impl FieldName {
 pub struct Value {
     pub lang: u16,
     pub raw: Bytes,
+}
+
+impl Value {
+    /// The same value.
+    pub fn copy(&self, alloc: Global) -> Result<Value, NoMemory>
+        ensures { IfOk result (λ value. value ≡ self.now) }
+    {
+        let raw = Bytes::new(alloc, self.raw.as_slice())?;
+        Ok(Value {
+            lang: self.lang,
+            raw,
+        })
+    }
 }
 
 /// What an edit does to a field.

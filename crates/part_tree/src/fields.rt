@@ -1,7 +1,7 @@
 // The fields of a file.
 ghost use Rattle.std.specs.Prelude.{◌≡◌, ◌<◌, ◌≤◌, ℕ, ◌++◌, ◌∷◌, [], length, nat_le, IfOk, OnOk, OnErr, slice_get, option_copied, is_ok, if◌then◌else◌};
 ghost use Rattle.std.specs.List.{position_or_len};
-ghost use Rattle.part_tree.specs.Fields.{values, names, IsMap, Adds};
+ghost use Rattle.part_tree.specs.Fields.{values, names, IsMap, Adds, Replaces, listed};
 ghost use Rattle.part_tree.specs.Names.{IsFieldName, field_place};
 
 use crate::field::{FieldName, Value};
@@ -58,6 +58,24 @@ pub struct Entry {
     pub values: Values,
 }
 
+impl Entry {
+    fn copy(&self, alloc: Global) -> Result<Entry, NoMemory>
+        ensures { IfOk result (λ entry. entry ≡ self.now) }
+    {
+        let mut held = Vec::new(alloc);
+        for value in self.values.as_slice() {
+            match held.push(value.copy(alloc)?) {
+                Ok(()) => {}
+                Err(_) => return Err(NoMemory),
+            }
+        }
+        Ok(Entry {
+            name: self.name,
+            values: Values { held },
+        })
+    }
+}
+
 /// The fields of a file, seen as a finite map from names to lists of values: the entries of the names that have a value,
 /// in field order.
 #[derive(Debug, Drop)]
@@ -105,6 +123,64 @@ impl Fields {
             Ok(()) => Ok(()),
             Err(_) => Err(NoMemory),
         }
+    }
+
+    /// The value becomes the only one of that name, or the name gets none; all else stays.
+    pub fn replace(&mut self, name: FieldName, value: Option<Value>) -> Result<(), NoMemory>
+        requires { IsFieldName name }
+        ensures ok { OnOk result (Replaces self.old self.new name (listed value)) }
+        ensures err { OnErr result (self.new ≡ self.old) }
+    {
+        match value {
+            Some(value) => self.put_only(name, value),
+            None => {
+                self.take_away(&name);
+                Ok(())
+            }
+        }
+    }
+
+    // The value becomes the only one of that name.
+    fn put_only(&mut self, name: FieldName, value: Value) -> Result<(), NoMemory>
+        requires { IsFieldName name }
+        ensures ok { OnOk result (Replaces self.old self.new name (value ∷ [])) }
+        ensures err { OnErr result (self.new ≡ self.old) }
+    {
+        let values = Values::one(self.alloc, value)?;
+        let k = entries_before(&self.entries, &name);
+        if k < self.entries.len() && self.entries[k].name.is(&name) {
+            self.entries[k] = Entry { name, values };
+            return Ok(());
+        }
+        match self.entries.insert(k, Entry { name, values }) {
+            Ok(()) => Ok(()),
+            Err(_) => Err(NoMemory),
+        }
+    }
+
+    // The name gets no value.
+    fn take_away(&mut self, name: &FieldName)
+        requires { IsFieldName name.now }
+        ensures { Replaces self.old self.new name.now [] }
+    {
+        let k = entries_before(&self.entries, name);
+        if k < self.entries.len() && self.entries[k].name.is(name) {
+            let _ = self.entries.remove(k);
+        }
+    }
+
+    /// The same fields.
+    pub fn copy(&self, alloc: Global) -> Result<Fields, NoMemory>
+        ensures { IfOk result (λ fields. fields ≡ self.now) }
+    {
+        let mut entries = Vec::new(alloc);
+        for entry in &self.entries {
+            match entries.push(entry.copy(alloc)?) {
+                Ok(()) => {}
+                Err(_) => return Err(NoMemory),
+            }
+        }
+        Ok(Fields { alloc, entries })
     }
 
     /// The values of the name in file order, none where it isn't there.

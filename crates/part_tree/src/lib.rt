@@ -10,6 +10,8 @@ mod moves;
 mod names;
 mod part;
 mod plan;
+#[cfg(test)]
+mod tests;
 mod why;
 
 pub use bytes::Bytes;
