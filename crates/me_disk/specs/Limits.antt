@@ -52,6 +52,7 @@ fate_listed (Some false) = Undone
 abbrev pub fate : Option ℕ → Limits → Fate
 fate piece l = if is_past l.stop (one_more l.calls) || lacks_room piece l then Undone else fate_listed (listed l.failing (one_more l.calls))
 
+-- the faults that were counted after a call with this fate
 abbrev pub faults_after : Fate → ℕ → ℕ
 faults_after Done faults = faults
 faults_after _ faults = one_more faults
@@ -68,10 +69,11 @@ read_fails l = is_past l.stop (one_more l.calls) || is_some (listed l.failing (o
 abbrev pub counted_read : Limits → Limits
 counted_read l = record l { calls = one_more l.calls; faults = if read_fails l then one_more l.faults else l.faults }
 
--- the room that is left
+-- the calls that there is room for yet
 abbrev pub calls_left : Limits → ℕ
 calls_left l = l.room.calls - l.changes
 
+-- and the bytes
 abbrev pub bytes_left : Limits → ℕ
 bytes_left l = l.room.bytes - l.asked
 
