@@ -67,7 +67,7 @@ patches_15a : patches m15 (set big) ≡ patch 20 (0 ∷ 0 ∷ 0 ∷ 160 ∷ []) 
 unfolding edited_file units chunks read mend
 patches_15a = refl
 
-whole_15a : too_large m15 (set big) ≡ None
+pub whole_15a : too_large m15 (set big) ≡ None
 unfolding edited_file units chunks read mend leaves walk
 whole_15a = refl
 
@@ -103,7 +103,7 @@ again : new_file n15 (set big) ≡ n15
 unfolding edited_file units chunks read mend
 again = refl
 
-fine_m15 : why m15 ≡ None
+pub fine_m15 : why m15 ≡ None
 unfolding read chunks walk leaves
 fine_m15 = refl
 

@@ -16,6 +16,7 @@ ghost use Rattle.part_tree.specs.declared.field.RuleSet.TheVariants.{Base};
 ghost use Rattle.part_tree.specs.declared.names.Kind.TheVariants.{Mov};
 ghost use Rattle.field_model.specs.Broken.{broken};
 ghost use Rattle.mov_model.specs.Cuts.{TablesStay, all_cuts, unit_cuts};
+ghost use Rattle.mov_model.specs.Room.{Room, patched, patches};
 ghost use Rattle.mov_model.specs.Large.{too_large};
 
 /// For every supported movie and every edit of fields that keeps the rules of Base, and after which nothing is too large,
@@ -57,4 +58,11 @@ pub fn new_is_spliced()
 /// Where no table holds a place that moves, only the header of `moov` and the slots of units change.
 pub fn only_units_change()
     ensures { (o : List ℕ) (e : List EditItem) → IsBytes o → Supported o → TablesStay o e → new_file o e ≡ splice o (unit_cuts (movie_of o) (changes o e)) }
+{}
+
+/// Where an edit has room, no chunk of a track moves, and the patches, laid over the old file at the new length, make the
+/// new file.
+pub fn patches_make_new()
+    ensures stay { (o : List ℕ) (e : List EditItem) → IsBytes o → Supported o → Room o e → TablesStay o e }
+    ensures made { (o : List ℕ) (e : List EditItem) → IsBytes o → Supported o → Room o e → new_file o e ≡ take (length (new_file o e)) (patched (patches o e) o) }
 {}

@@ -1,0 +1,35 @@
+-- The premises of the laws are met: a worked movie is supported by its tests, and its edit is the worked one by the law.
+use Rattle.std.proofs.Common.{◌≡◌, ℕ, zero, suc, Bool, true, ltb, List, [], ◌∷◌, None, refl, subst, arith}
+use Rattle.std.specs.Prelude.{◌&&◌}
+use Rattle.std.specs.Str.{is_utf8, chars}
+use Rattle.std.proofs.lemmas.Bool.{ltb-true, and_parts}
+use lib.Utf8.{encode}
+use Rattle.me_bytes.specs.Bytes.{IsBytes}
+use Rattle.part_tree.specs.declared.field.RuleSet.TheVariants.{Base}
+use Rattle.part_tree.specs.declared.names.Kind.TheVariants.{Mov}
+use Rattle.field_model.specs.Broken.{broken}
+use Rattle.container_model.specs.Chunk.{read, chunks}
+use Rattle.mov_model.specs.Support.{Supported}
+use Rattle.mov_model.specs.Edited.{Edited, fields}
+use Rattle.mov_model.proofs.Fields.{edit_law}
+use Rattle.mov_model.proofs.Rows.{m15, n15, set, big, fine_m15, row_15a, whole_15a}
+use Rattle.mov_model.proofs.Why.{none_supported}
+
+abbrev all_below : List ℕ → Bool
+all_below [] = true
+all_below (x ∷ b) = ltb x 256 && all_below b
+
+are_bytes : (b : List ℕ) → all_below b ≡ true → IsBytes b
+are_bytes [] e i = omega arith
+are_bytes (x ∷ b) e zero = ltb-true _ _ (and_parts (ltb x 256) (all_below b) e).0
+are_bytes (x ∷ b) e (suc i) = are_bytes b (and_parts (ltb x 256) (all_below b) e).1 i
+
+supported : Supported m15
+supported = none_supported m15 fine_m15
+
+keeps_rules : broken Mov (fields m15) (set big) Base ≡ None
+unfolding read chunks is_utf8 chars encode
+keeps_rules = refl
+
+pub edited : Edited m15 (set big) n15
+edited = subst (Edited m15 (set big)) row_15a (edit_law m15 (set big) (are_bytes m15 refl) supported (refl, tt) keeps_rules whole_15a)
