@@ -25,12 +25,15 @@ pub record RowTable : Type 0 where
   pub width : Width
   pub rows : ℕ
 
+-- a table of this width whose header stands at a place
 abbrev pub table_of : Width → ℕ → Chunk → RowTable
 table_of w at c = record { at = body_at at c + 8; width = w; rows = count c }
 
+-- a table of chunk places has rows of four or of eight bytes
 abbrev pub tables_at : ℕ → Chunk → List RowTable
 tables_at at c = if is c (codes "stco") then table_of be32 at c ∷ [] else (if is c (codes "co64") then table_of be64 at c ∷ [] else [])
 
+-- tables stand in stbl
 abbrev pub step_tables : Step Place → List RowTable
 step_tables (chunk_at stbl at c) = tables_at at c
 step_tables (chunk_at p at c) = []
@@ -40,6 +43,7 @@ step_tables (end_at p at stop) = []
 abbrev pub row_tables : List ℕ → List RowTable
 row_tables b = flat_map step_tables (moov_steps (movie_of b))
 
+-- so many rows that follow each other
 abbrev pub row_spans : ℕ → ℕ → ℕ → List Span
 row_spans at bytes zero = []
 row_spans at bytes (suc k) = record { at = at; len = bytes } ∷ row_spans (at + bytes) bytes k
@@ -54,9 +58,11 @@ offset_places b = flat_map (λ (t : RowTable). row_spans t.at t.width.bytes t.ro
 abbrev pub table_cut : (ℕ → ℕ) → Width → ℕ → Chunk → Cut
 table_cut f w at c = record { at = body_at at c + 8; len = w.bytes * count c; bytes = spelled w (map f (rows w c)) }
 
+-- the rows of a table of chunk places
 abbrev pub table_cuts : (ℕ → ℕ) → ℕ → Chunk → List Cut
 table_cuts f at c = if is c (codes "stco") then table_cut f be32 at c ∷ [] else (if is c (codes "co64") then table_cut f be64 at c ∷ [] else [])
 
+-- tables stand in stbl
 abbrev pub step_cuts : (ℕ → ℕ) → Step Place → List Cut
 step_cuts f (chunk_at stbl at c) = table_cuts f at c
 step_cuts f (chunk_at p at c) = []

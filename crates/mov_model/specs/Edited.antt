@@ -26,9 +26,11 @@ abbrev pub user_item : FieldName → Option Value → List (Item Value)
 user_item (User id) value = record { name = id.0; value = value } ∷ []
 user_item name value = []
 
+-- the items of the user data, in order
 abbrev pub user_edit : List RawItem → List (Item Value)
 user_edit e = flat_map (λ (i : RawItem). user_item i.name i.value) e
 
+-- what an edit of a movie does to its user data
 abbrev pub changes : List ℕ → List EditItem → List (Item Value)
 changes o e = user_edit (raw_items (fields o) e)
 

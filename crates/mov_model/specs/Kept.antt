@@ -1,4 +1,4 @@
--- What an edit keeps of a movie, in order, and where it puts the items of the user data.
+-- What an edit keeps of a movie, in order, and where it puts the items of the user data (this project's own).
 use Rattle.std.specs.Prelude.{List, [], codes, drop, if◌then◌else◌, map, replicate, take, ℕ, ◌*◌, ◌++◌, ◌+◌, ◌∷◌}
 use Rattle.part_tree.specs.declared.field.Value.{Value}
 use Rattle.container_model.specs.Chunk.{Chunk, Form, short}
@@ -6,7 +6,7 @@ use Rattle.container_model.specs.Deep.{Token, leaf, tokens}
 use Rattle.container_model.specs.Items.{Item, item_token, put_marks}
 use Rattle.container_model.specs.Rows.{Width, be32, be64}
 use Rattle.container_model.specs.Units.{solids}
-use Rattle.mov_model.specs.Atoms.{Place, atoms_in, dinf, file, format, is, is_padding, mdia, minf, moov, stbl, trak, user_data}
+use Rattle.mov_model.specs.Atoms.{Place, atoms_in, format, is, is_padding, moov, stbl}
 use Rattle.mov_model.specs.Movie.{Movie, movie_of}
 use Rattle.mov_model.specs.Parts.{parts}
 use Rattle.mov_model.specs.Tables.{count}
@@ -21,32 +21,33 @@ pub data Node : Type 0 where
 abbrev pub blank_rows : Width → Chunk → List ℕ
 blank_rows w c = take 8 c.body ++ (replicate (w.bytes * count c) 0 ++ drop (8 + w.bytes * count c) c.body)
 
+-- a table of chunk places, with zeros for its rows
 abbrev pub look_table : Chunk → List ℕ
 look_table c = if is c (codes "stco") then blank_rows be32 c else (if is c (codes "co64") then blank_rows be64 c else c.body)
 
+-- what is looked at in a leaf: tables stand in stbl
 abbrev pub look : Place → Chunk → List ℕ
-look file c = c.body
-look user_data c = c.body
-look moov c = c.body
-look trak c = c.body
-look mdia c = c.body
-look minf c = c.body
-look dinf c = c.body
 look stbl c = look_table c
+look p c = c.body
 
+-- an atom of moov with all that is in it
 abbrev pub plain_node : Chunk → Node
 plain_node c = other (tokens format look 5 moov c)
 
+-- the user data: marks of its items, its other children, and its rest
 abbrev pub user_node : Chunk → Node
 user_node c = user c.form (map (item_token user_items) (udta.opening c).chunks) (udta.opening c).left
 
+-- the atoms of moov, of which the first user data is opened
 abbrev pub nodes : List Chunk → List Node
 nodes [] = []
 nodes (c ∷ cs) = if udta.is c then user_node c ∷ map plain_node cs else plain_node c ∷ nodes cs
 
+-- an atom of the file
 abbrev pub leaf_of : Chunk → Token
 leaf_of c = leaf c.form c.id c.body
 
+-- What is kept, padding apart: the atoms before moov, its header form, its atoms and its rest, the atoms behind it, and the tail.
 pub record Kept : Type 0 where
   pub before : List Token
   pub form : Form
@@ -55,6 +56,7 @@ pub record Kept : Type 0 where
   pub behind : List Token
   pub tail : List ℕ
 
+-- what is kept of a movie
 abbrev pub kept_in : Movie → Kept
 kept_in m = record {
   before = map leaf_of (solids is_padding m.before);
@@ -70,13 +72,16 @@ abbrev pub new_node : List Token → List Node
 new_node [] = []
 new_node (t ∷ ts) = user short (t ∷ ts) [] ∷ []
 
+-- the items of an edit are put among the items of the user data
 abbrev pub placed_nodes : List (Item Value) → List Node → List Node
 placed_nodes e [] = new_node (put_marks e [])
 placed_nodes e (other ts ∷ ns) = other ts ∷ placed_nodes e ns
 placed_nodes e (user form ts rest ∷ ns) = user form (put_marks e ts) rest ∷ ns
 
+-- what is kept, after an edit
 abbrev pub placed : Kept → List (Item Value) → Kept
 placed k e = record k { inside = placed_nodes e k.inside }
 
+-- what is kept of a file
 abbrev pub kept : List ℕ → Kept
 kept b = kept_in (movie_of b)

@@ -1,4 +1,4 @@
--- What is too large: the first of these sizes that passes its limit.
+-- What is too large: the first of these sizes that passes its limit (this project's own).
 use Rattle.std.specs.Prelude.{Bool, List, None, Option, Some, [], codes, if◌then◌else◌, length, map, nat_lt, ℕ, ◌++◌, ◌^◌, ◌∷◌}
 use Rattle.std.specs.List.{flat_map}
 use Rattle.part_tree.specs.declared.field.EditItem.{EditItem}
@@ -15,16 +15,20 @@ use Rattle.mov_model.specs.Reading.{count_parts}
 use Rattle.mov_model.specs.Tables.{rows, tables}
 use Rattle.mov_model.specs.User.{udta, user_items}
 
+-- a size and its limit
 pub record Size : Type 0 where
   pub size : ℕ
   pub limit : ℕ
 
+-- this size, with this limit
 abbrev pub sized : ℕ → ℕ → Size
 sized n limit = record { size = n; limit = limit }
 
+-- it passes its limit
 abbrev pub passes : Size → Bool
 passes s = nat_lt s.limit s.size
 
+-- the first that passes its limit
 abbrev pub first_passing : List Size → Option Size
 first_passing [] = None
 first_passing (s ∷ ss) = if passes s then Some s else first_passing ss
@@ -41,9 +45,11 @@ row_sizes f c =
     if is c (codes "stco") then map (λ p. sized (f p) 4294967295) (rows be32 c)
     else (if is c (codes "co64") then map (λ p. sized (f p) 18446744073709551615) (rows be64 c) else [])
 
+-- the new places in all tables, by place
 abbrev pub table_sizes : Movie → List (Item Value) → List Size
 table_sizes m e = flat_map (λ (t : Chunk). flat_map (row_sizes (shift (edit_cuts m e))) (tables t)) (tracks m)
 
+-- in this order: the user data, the number of atoms, moov, the places of chunks, the file
 abbrev pub all_sizes : Movie → List (Item Value) → List Size
 all_sizes m e =
     user_sizes m e
@@ -55,5 +61,6 @@ abbrev pub size_passed : Movie → List (Item Value) → Option Size
 size_passed m [] = None
 size_passed m (i ∷ e) = first_passing (all_sizes m (i ∷ e))
 
+-- the first limit that an edit passes
 abbrev pub too_large : List ℕ → List EditItem → Option Size
 too_large o e = size_passed (movie_of o) (changes o e)

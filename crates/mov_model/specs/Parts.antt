@@ -26,9 +26,10 @@ abbrev pub has_id : List ℕ → List Chunk → Bool
 has_id id [] = false
 has_id id (c ∷ cs) = is c id || has_id id cs
 
--- the tracks
+-- a track
 abbrev pub track_of : Chunk → List Chunk
 track_of c = if is c (codes "trak") then c ∷ [] else []
 
+-- the tracks of a movie
 abbrev pub tracks : Movie → List Chunk
 tracks m = flat_map track_of (parts m)

@@ -19,6 +19,7 @@ abbrev pub kid_steps : Bool → ℕ → Chunk → List (Step Place)
 kid_steps true at c = chunk_at moov at c ∷ (row user_data (body_at at c) (udta.opening c).chunks ++ end_at user_data (body_at at c + length (spell_all (udta.opening c).chunks)) (udta.opening c).stop ∷ [])
 kid_steps false at c = walk format 5 moov at c
 
+-- the atoms of moov, each with what is in it
 abbrev pub inside_steps : Bool → ℕ → List Chunk → List (Step Place)
 inside_steps seen at [] = []
 inside_steps seen at (c ∷ cs) = kid_steps (not seen && udta.is c) at c ++ inside_steps (seen || udta.is c) (at + length (spell c)) cs
@@ -27,9 +28,11 @@ inside_steps seen at (c ∷ cs) = kid_steps (not seen && udta.is c) at c ++ insi
 abbrev pub inside_at : Movie → ℕ
 inside_at m = body_at (length (spell_all m.before)) m.movie
 
+-- all that is met in moov, and its end
 abbrev pub moov_steps : Movie → List (Step Place)
 moov_steps m = inside_steps false (inside_at m) (atoms_in m.movie).chunks ++ end_at moov (inside_at m + length (spell_all (atoms_in m.movie).chunks)) (atoms_in m.movie).stop ∷ []
 
+-- all that is met in a file
 abbrev pub reading : List ℕ → List (Step Place)
 reading b = row file 0 (top_run b).chunks ++ end_at file (length (spell_all (top_run b).chunks)) (top_run b).stop ∷ moov_steps (movie_of b)
 
@@ -43,20 +46,20 @@ count_parts m = length (all_atoms m) + atoms_met (moov_steps m)
 
 -- ---- what stands but once in a track
 
+-- a type that is in a list, as a name
 abbrev pub one_of : List (List ℕ) → List ℕ → Option (List ℕ)
 one_of names id = if is_listed id names then Some id else None
 
 -- The name under which an atom stands once: the opened ones and the tables that are read. Both tables of chunk places have one name.
 abbrev pub once : Place → List ℕ → Option (List ℕ)
-once file id = None
-once moov id = None
-once user_data id = None
 once trak id = one_of (codes "mdia" ∷ []) id
 once mdia id = one_of (codes "minf" ∷ []) id
 once minf id = one_of (codes "stbl" ∷ codes "dinf" ∷ []) id
 once stbl id = if bytes_eq id (codes "co64") then Some (codes "stco") else one_of (codes "stco" ∷ codes "stsc" ∷ codes "stsz" ∷ []) id
 once dinf id = one_of (codes "dref" ∷ []) id
+once p id = None
 
+-- the name of an atom of a track, or none
 abbrev pub names_of : Leaf Place → List (List ℕ)
 names_of l = listed (once l.place l.chunk.id)
 

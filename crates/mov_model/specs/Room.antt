@@ -16,6 +16,7 @@ use Rattle.mov_model.specs.Edited.{changes}
 abbrev pub unit_fits : Bool → ℕ → ℕ → Bool
 unit_fits ends slot s = (s == slot) || ((nat_le 8 (slot - s) && nat_lt (slot - s) (2 ^ 32)) || ends)
 
+-- each unit fits; only the last slot may end the file
 abbrev pub units_fit : Bool → List Piece → Bool
 units_fit ends [] = true
 units_fit ends (copied c ∷ ps) = units_fit ends ps
@@ -23,6 +24,7 @@ units_fit ends (replaced lead slot now last ∷ ps) = unit_fits (ends && last) (
 
 -- ---- patches
 
+-- these bytes at this place
 abbrev pub patch : ℕ → List ℕ → Patch
 patch at bytes = record { at = at; bytes = bytes }
 
@@ -47,6 +49,7 @@ moov_patch m n = if n == length m.movie.body then [] else size_patch m.movie.for
 abbrev pub patches_of : Movie → List (Item Value) → List Patch
 patches_of m e = filter (λ p. not (is_nil p.bytes)) (moov_patch m (length (new_movie m e).movie.body) ++ unit_patches (fill (ends_file m e)) (kids_at m e) (whole_pieces m e))
 
+-- the patches of an edit, by place
 abbrev pub patches : List ℕ → List EditItem → List Patch
 patches o e = patches_of (movie_of o) (changes o e)
 
@@ -61,6 +64,7 @@ patched (p ∷ ps) b = patched ps (overlay p.at p.bytes b)
 
 -- ---- room
 
+-- the bytes of all patches together
 abbrev pub total : List Patch → ℕ
 total [] = 0
 total (p ∷ ps) = length p.bytes + total ps
@@ -69,5 +73,6 @@ total (p ∷ ps) = length p.bytes + total ps
 abbrev pub has_room : List ℕ → List EditItem → Bool
 has_room o e = units_fit (ends_file (movie_of o) (changes o e)) (whole_pieces (movie_of o) (changes o e)) && nat_le (total (patches o e)) (2 ^ 24)
 
+-- the edit has room in place
 abbrev pub Room : List ℕ → List EditItem → Type 0
 Room o e = has_room o e ≡ true

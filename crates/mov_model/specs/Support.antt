@@ -44,6 +44,7 @@ pub record MovieFine (m : Movie) : Type 0 where
   pub tracks : AllByRecursion (TrackFine (all_atoms m)) (tracks m)
   pub few_parts : count_parts m ≤ 65536
 
+-- A file that is supported: a movie by its first bytes, whose atoms end as they should, with a moov that is fine.
 pub record Supported (b : List ℕ) : Type 0 where
   pub kind : is_movie b ≡ true
   pub atoms_end : (top_run b).stop ≡ ends

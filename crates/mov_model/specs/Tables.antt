@@ -1,19 +1,21 @@
--- The tables of a track: where its chunks stand, how many samples each has, and how long they are.
+-- The tables of a track: where its chunks stand, how many samples each has, and how long they are (QuickTime File Format, sample table atoms and data reference atoms).
 use Rattle.std.specs.Prelude.{Bool, List, [], codes, drop, false, if◌then◌else◌, length, nat_le, nat_lt, not, replicate, suc, take, true, zero, ℕ, ◌%◌, ◌&&◌, ◌*◌, ◌++◌, ◌+◌, ◌<◌, ◌==◌, ◌^◌, ◌∷◌, ◌≡◌}
 use Rattle.std.specs.Int.{from_be_bytes, w32}
 use Rattle.std.specs.List.{AllByRecursion, flat_map}
 use Rattle.container_model.specs.Chunk.{Chunk}
 use Rattle.container_model.specs.Deep.{Leaf, leaves, mend}
 use Rattle.container_model.specs.Rows.{Width, be32, be64, changed, numbers}
-use Rattle.mov_model.specs.Atoms.{Place, dinf, file, format, is, mdia, minf, moov, stbl, trak, user_data}
+use Rattle.mov_model.specs.Atoms.{Place, dinf, format, is, moov, stbl}
 
--- version and flags, the count of rows, and the rows
+-- a table has version and flags, a count, and so many rows
 abbrev pub count : Chunk → ℕ
 count c = from_be_bytes w32 (take 4 (drop 4 c.body))
 
+-- the rows of a table
 abbrev pub rows : Width → Chunk → List ℕ
 rows w c = numbers w (count c) (drop 8 c.body)
 
+-- the body of a table with each row changed
 abbrev pub with_rows : Width → (ℕ → ℕ) → Chunk → List ℕ
 with_rows w f c = take 8 c.body ++ changed w f (count c) (drop 8 c.body)
 
@@ -21,11 +23,12 @@ with_rows w f c = take 8 c.body ++ changed w f (count c) (drop 8 c.body)
 abbrev pub places_in : Chunk → List ℕ
 places_in c = if is c (codes "stco") then rows be32 c else (if is c (codes "co64") then rows be64 c else [])
 
--- The bytes that a table needs for its rows; a table of sample sizes has rows where it has no common size.
+-- the bytes of the rows of sample sizes, by the common size and their number
 abbrev pub size_rows : ℕ → ℕ → ℕ
 size_rows zero n = 4 * n
 size_rows (suc common) n = 0
 
+-- how long the body of a table has to be
 abbrev pub need : Chunk → ℕ
 need c =
     if is c (codes "stco") then 8 + 4 * count c
@@ -33,6 +36,7 @@ need c =
     else (if is c (codes "stsc") then 8 + 12 * count c
     else (if is c (codes "stsz") then 12 + size_rows (count c) (from_be_bytes w32 (take 4 (drop 8 c.body))) else 0)))
 
+-- a table too short for its rows
 abbrev pub is_short_table : Chunk → Bool
 is_short_table c = nat_lt (length c.body) (need c)
 
@@ -48,15 +52,10 @@ FitsRows f c = (is c (codes "stco") ≡ true → AllByRecursion (λ p. f p < 2 ^
 abbrev pub moved_body : (ℕ → ℕ) → Chunk → List ℕ
 moved_body f c = if is c (codes "stco") then with_rows be32 f c else (if is c (codes "co64") then with_rows be64 f c else c.body)
 
+-- tables stand in stbl
 abbrev pub moved_leaf : (ℕ → ℕ) → Place → Chunk → List ℕ
-moved_leaf f file c = c.body
-moved_leaf f user_data c = c.body
-moved_leaf f moov c = c.body
-moved_leaf f trak c = c.body
-moved_leaf f mdia c = c.body
-moved_leaf f minf c = c.body
-moved_leaf f dinf c = c.body
 moved_leaf f stbl c = moved_body f c
+moved_leaf f p c = c.body
 
 -- an atom of moov with all its chunk places changed
 abbrev pub relocated : (ℕ → ℕ) → Chunk → Chunk
@@ -64,38 +63,29 @@ relocated f c = mend format (moved_leaf f) 5 moov c
 
 -- ---- what the tables say
 
+-- an atom in stbl
 abbrev pub in_stbl : Place → Chunk → List Chunk
-in_stbl file c = []
-in_stbl user_data c = []
-in_stbl moov c = []
-in_stbl trak c = []
-in_stbl mdia c = []
-in_stbl minf c = []
-in_stbl dinf c = []
 in_stbl stbl c = c ∷ []
+in_stbl p c = []
 
 -- the tables of a track
 abbrev pub tables : Chunk → List Chunk
 tables t = flat_map (λ (l : Leaf Place). in_stbl l.place l.chunk) (leaves format 5 moov t)
 
+-- an atom in dinf
 abbrev pub in_dinf : Place → Chunk → List Chunk
-in_dinf file c = []
-in_dinf user_data c = []
-in_dinf moov c = []
-in_dinf trak c = []
-in_dinf mdia c = []
-in_dinf minf c = []
 in_dinf dinf c = c ∷ []
-in_dinf stbl c = []
+in_dinf p c = []
 
 -- where its data is said to be
 abbrev pub references : Chunk → List Chunk
 references t = flat_map (λ (l : Leaf Place). in_dinf l.place l.chunk) (leaves format 5 moov t)
 
--- an entry's size, with these four bytes, its type, and its version and flags
+-- an entry has its size, with these four bytes, its type, and its version and flags
 abbrev pub entry_size : List ℕ → ℕ
 entry_size b = from_be_bytes w32 (take 4 b)
 
+-- its version and flags
 abbrev pub entry_flags : List ℕ → ℕ
 entry_flags b = from_be_bytes w32 (take 4 (drop 8 b))
 
@@ -109,9 +99,11 @@ abbrev pub entries_local : ℕ → List ℕ → Bool
 entries_local zero b = true
 entries_local (suc k) b = (entry_flags b % 2 == 1) && entries_local k (drop (entry_size b) b)
 
+-- a reference too short for its entries, or with one that is too short or too long
 abbrev pub is_short_reference : Chunk → Bool
 is_short_reference c = is c (codes "dref") && not (nat_le 8 (length c.body) && entries_whole (count c) (drop 8 c.body))
 
+-- a reference with an entry to another file
 abbrev pub is_external : Chunk → Bool
 is_external c = is c (codes "dref") && not (entries_local (count c) (drop 8 c.body))
 
@@ -124,17 +116,21 @@ pub record Run : Type 0 where
   pub first : ℕ
   pub samples : ℕ
 
+-- rows of first chunk, samples in each chunk, and description
 abbrev pub runs_from : ℕ → List ℕ → List Run
 runs_from zero b = []
 runs_from (suc k) b = record { first = from_be_bytes w32 (take 4 b); samples = from_be_bytes w32 (take 4 (drop 4 b)) } ∷ runs_from k (drop 12 b)
 
+-- the runs in a table
 abbrev pub runs_in : Chunk → List Run
 runs_in c = if is c (codes "stsc") then runs_from (count c) (drop 8 c.body) else []
 
+-- sizes one by one where the common size is 0, else the common size so many times
 abbrev pub sizes_by : ℕ → ℕ → List ℕ → List ℕ
 sizes_by zero n b = numbers be32 n b
 sizes_by (suc k) n b = replicate n (suc k)
 
+-- the sizes of samples in a table
 abbrev pub sizes_in : Chunk → List ℕ
 sizes_in c = if is c (codes "stsz") then sizes_by (count c) (from_be_bytes w32 (take 4 (drop 8 c.body))) (drop 12 c.body) else []
 
@@ -143,6 +139,7 @@ abbrev pub ascend : ℕ → List Run → Bool
 ascend low [] = true
 ascend low (r ∷ rs) = nat_lt low r.first && ascend r.first rs
 
+-- the first run begins at chunk 1
 abbrev pub start_at_one : List Run → Bool
 start_at_one [] = false
 start_at_one (r ∷ rs) = (r.first == 1) && ascend 1 rs
@@ -158,6 +155,7 @@ samples_in zero sizes tail = []
 samples_in (suc n) [] tail = []
 samples_in (suc n) (s ∷ sizes) tail = if nat_le s (length tail) then take s tail ∷ samples_in n sizes (drop s tail) else []
 
+-- the samples of the chunks from a number on
 abbrev pub samples_from : List Run → ℕ → List ℕ → List (List ℕ) → List (List (List ℕ))
 samples_from rs n sizes [] = []
 samples_from rs n sizes (t ∷ tails) = samples_in (samples_of 0 n rs) sizes t ∷ samples_from rs (suc n) (drop (samples_of 0 n rs) sizes) tails

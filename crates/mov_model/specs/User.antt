@@ -16,10 +16,12 @@ text_size b = from_be_bytes w16 (take 2 b)
 abbrev pub text_language : List ℕ → ℕ
 text_language b = from_be_bytes w16 (take 2 (drop 2 b))
 
+-- a text before others
 abbrev pub with_text : Value → Option (List Value) → Option (List Value)
 with_text t None = None
 with_text t (Some ts) = Some (t ∷ ts)
 
+-- the text at the front, then the others; none where it passes the end
 abbrev pub text_then : (List ℕ → Option (List Value)) → List ℕ → Bool → Option (List Value)
 text_then again b true = None
 text_then again b false = with_text (record { lang = text_language b; raw = take (text_size b) (drop 4 b) }) (again (drop (text_size b) (drop 4 b)))
@@ -30,13 +32,16 @@ texts_in k [] = Some []
 texts_in zero (x ∷ b) = None
 texts_in (suc k) (x ∷ b) = text_then (texts_in k) (x ∷ b) (nat_lt (length (x ∷ b)) (4 + text_size (x ∷ b)))
 
+-- the texts, or none
 abbrev pub found : Option (List Value) → List Value
 found None = []
 found (Some ts) = ts
 
+-- the texts that fill a body
 abbrev pub texts : List ℕ → List Value
 texts b = found (texts_in (length b) b)
 
+-- a text as it is written: its length, its language and its bytes
 abbrev pub text_bytes : Value → List ℕ
 text_bytes t = to_be_bytes w16 (length t.raw) ++ (to_be_bytes w16 t.lang ++ t.raw)
 
