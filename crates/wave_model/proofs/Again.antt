@@ -22,6 +22,19 @@ FormFine riff id n = (n < 2 ^ 32) × (is_big id ≡ true → n < 2 ^ 32 - 1)
 FormFine wide id n = is_big id ≡ true
 FormFine _ id n = ⊥
 
+-- RIFF's own field, or FFFFFFFF
+abbrev pub IsForm : Form → Type 0
+IsForm riff = Unit {0}
+IsForm wide = Unit {0}
+IsForm _ = ⊥
+
+pub is_form : (form : Form) (id : List ℕ) (n : ℕ) → FormFine form id n → IsForm form
+is_form riff id n f = tt
+is_form wide id n f = tt
+is_form Rattle.container_model.specs.Chunk.short id n f = f
+is_form Rattle.container_model.specs.Chunk.long id n f = f
+is_form Rattle.container_model.specs.Chunk.to_end id n f = f
+
 pub record Readable (w : Wave) : Type 0 where
   pub id_len : length w.id ≡ 4
   pub form_fine : FormFine w.form w.id (length (inner w))
@@ -38,14 +51,14 @@ pad_taken n pad more (inl e) = (take_at pad more (n % 2) e, drop_at pad more (n 
 pad_taken n pad more (inr h) =
     (rw (h.1, append-nil) (take_all (n % 2) pad h.0), rw (h.1, append-nil) (drop_all (n % 2) pad h.0))
 
-header_is : (form : Form) (id : List ℕ) (n : ℕ) → FormFine form id n → header_bytes form id n ≡ id ++ field_of form n
+header_is : (form : Form) (id : List ℕ) (n : ℕ) → IsForm form → header_bytes form id n ≡ id ++ field_of form n
 header_is riff id n f = refl
 header_is wide id n f = refl
 header_is Rattle.container_model.specs.Chunk.short id n f = absurd f
 header_is Rattle.container_model.specs.Chunk.long id n f = absurd f
 header_is Rattle.container_model.specs.Chunk.to_end id n f = absurd f
 
-field_len : (form : Form) (n : ℕ) → length (field_of form n) ≡ 4
+pub field_len : (form : Form) (n : ℕ) → length (field_of form n) ≡ 4
 field_len riff n = refl
 field_len wide n = refl
 field_len Rattle.container_model.specs.Chunk.short n = refl
@@ -53,13 +66,13 @@ field_len Rattle.container_model.specs.Chunk.long n = refl
 field_len Rattle.container_model.specs.Chunk.to_end n = refl
 
 -- a file as its header's two fields, its form, and what is behind
-pub spelled : (w : Wave) → FormFine w.form w.id (length (inner w)) → spell_wave w ≡ w.id ++ (field_of w.form (length (inner w)) ++ (inner w ++ (w.pad ++ w.tail)))
+pub spelled : (w : Wave) → IsForm w.form → spell_wave w ≡ w.id ++ (field_of w.form (length (inner w)) ++ (inner w ++ (w.pad ++ w.tail)))
 spelled w f = ap (λ (x : List ℕ). (x ++ (inner w ++ w.pad)) ++ w.tail) (header_is w.form w.id (length (inner w)) f) ∙ regroup w.id (field_of w.form (length (inner w))) (inner w) w.pad w.tail
   where
     regroup : (x y z p t : List ℕ) → ((x ++ y) ++ (z ++ p)) ++ t ≡ x ++ (y ++ (z ++ (p ++ t)))
     regroup x y z p t = simp append_assoc
 
-module _ (w : Wave) (f : FormFine w.form w.id (length (inner w))) (id_len : length w.id ≡ 4) where
+module _ (w : Wave) (f : IsForm w.form) (id_len : length w.id ≡ 4) where
   pub id_at : take 4 (spell_wave w) ≡ w.id
   id_at = ap (take 4) (spelled w f) ∙ take_at w.id (field_of w.form (length (inner w)) ++ (inner w ++ (w.pad ++ w.tail))) 4 id_len
 
@@ -76,10 +89,10 @@ module _ (w : Wave) (f : FormFine w.form w.id (length (inner w))) (id_len : leng
 
 module _ (w : Wave) (h : Readable w) where
   pub id_is : take 4 (spell_wave w) ≡ w.id
-  id_is = id_at w h.form_fine h.id_len
+  id_is = id_at w (is_form w.form w.id (length (inner w)) h.form_fine) h.id_len
 
   field_is : take 4 (drop 4 (spell_wave w)) ≡ field_of w.form (length (inner w))
-  field_is = field_at w h.form_fine h.id_len
+  field_is = field_at w (is_form w.form w.id (length (inner w)) h.form_fine) h.id_len
 
   pub wide_is : form_kind (is_wide (spell_wave w)) ≡ w.form
   wide_is = ap (λ (x : List ℕ). form_kind (is_big x && eqb (le32 (drop 4 (spell_wave w))) 4294967295)) id_is ∙ ap (λ (x : List ℕ). form_kind (is_big w.id && eqb (from_le_bytes w32 x) 4294967295)) field_is ∙ go w.form h.form_fine
@@ -119,10 +132,10 @@ module _ (w : Wave) (h : Readable w) where
       go Rattle.container_model.specs.Chunk.to_end e g = absurd g
 
   pub body_is : form_body (spell_wave w) ≡ inner w
-  body_is = ap (λ (n : ℕ). take n (drop 8 (spell_wave w))) size_is ∙ ap (take (length (inner w))) (body_at w h.form_fine h.id_len) ∙ take_at (inner w) (w.pad ++ w.tail) (length (inner w)) refl
+  body_is = ap (λ (n : ℕ). take n (drop 8 (spell_wave w))) size_is ∙ ap (take (length (inner w))) (body_at w (is_form w.form w.id (length (inner w)) h.form_fine) h.id_len) ∙ take_at (inner w) (w.pad ++ w.tail) (length (inner w)) refl
 
   behind_is : behind_form (spell_wave w) ≡ w.pad ++ w.tail
-  behind_is = ap (λ (n : ℕ). drop n (drop 8 (spell_wave w))) size_is ∙ ap (drop (length (inner w))) (body_at w h.form_fine h.id_len) ∙ drop_at (inner w) (w.pad ++ w.tail) (length (inner w)) refl
+  behind_is = ap (λ (n : ℕ). drop n (drop 8 (spell_wave w))) size_is ∙ ap (drop (length (inner w))) (body_at w (is_form w.form w.id (length (inner w)) h.form_fine) h.id_len) ∙ drop_at (inner w) (w.pad ++ w.tail) (length (inner w)) refl
 
   pad_is : take (pad_len riff (form_size (spell_wave w))) (behind_form (spell_wave w)) ≡ w.pad
   pad_is = ap (λ (n : ℕ). take (n % 2) (behind_form (spell_wave w))) size_is ∙ ap (take (length (inner w) % 2)) behind_is ∙ (pad_taken (length (inner w)) w.pad w.tail h.form_pad).0

@@ -32,6 +32,7 @@ use Rattle.wave_model.specs.Fields.{has_id, is_bext, is_whole, is_info, is_marke
 use Rattle.wave_model.specs.Carry.{edits_bext, steps, carried, stepped, placed}
 use Rattle.wave_model.specs.New.{ends_file, fill_of, new_children, new_size, with_riff_size, sized_ds64, new_wave}
 use Rattle.wave_model.specs.Edited.{blocks_by, formats, sounds, pieces_in, ds64_node, is_carrier, ChunkFine, IsFormat, parts, ChildrenFine, Ds64Fine, is_kind, Supported, junk_first, first_junk}
+use Rattle.wave_model.specs.Large.{FormSmall}
 use Rattle.wave_model.proofs.Read.{neutral}
 use Rattle.wave_model.proofs.Steps.{live_carried, gaps_carried, first_carried}
 use Rattle.wave_model.proofs.Acts.{all_pass, bext_after, other_id, whole_after}
@@ -39,13 +40,13 @@ use Rattle.wave_model.proofs.Ready.{ListEnds}
 use Rattle.wave_model.proofs.Values.{ItemFine, ItemsFine, format_bodies, sound_bodies, all_bext, all_whole, all_info, all_nodes, info_updated, whole_updated}
 use Rattle.field_model.proofs.Raised.{bext_edited, bext_made}
 use Rattle.wave_model.proofs.Bext.{IsBody, fit_bext}
-use Rattle.wave_model.proofs.Again.{FormFine, Readable, id_at, body_at, wave_again, run_is, size_is, id_is}
+use Rattle.wave_model.proofs.Again.{FormFine, is_form, Readable, id_at, body_at, wave_again, run_is, size_is, id_is}
 use Rattle.wave_model.proofs.Ds64.{IsDs64, HasDs64, first_id, first_size, first_rows, at_twenty, table_same}
-use Rattle.wave_model.proofs.Form.{form_fine, behind_body, old_pad, old_pads, old_left, has_ds64}
+use Rattle.wave_model.proofs.Form.{form_fine, old_form, behind_body, old_pad, old_pads, old_left, has_ds64}
 use Rattle.wave_model.proofs.Cells.{Ignores, gaps_cells, FirstIs, first_laid}
-use Rattle.wave_model.proofs.New.{FormSmall, Fits, pad_stands, ignores_body, ignores_bext, ignores_whole, CarrierSmall, old_live, seen, old_seen, old_bexts, new_bexts, new_small, ready, new_ends, new_heads, new_pads}
+use Rattle.wave_model.proofs.New.{Fits, pad_stands, ignores_body, ignores_bext, ignores_whole, CarrierSmall, old_live, seen, old_seen, old_bexts, new_bexts, new_small, ready, new_ends, new_heads, new_pads}
 
-apart : (t : Bool) → t ≡ false → t ≡ true → ⊥
+pub apart : (t : Bool) → t ≡ false → t ≡ true → ⊥
 apart true x y = absurd cc
 apart false x y = absurd cc
 
@@ -105,7 +106,7 @@ sized_len d x s =
     omega (arith, ap length head, s.len, ap length s.pad_is, length-append (header_bytes x.form x.id (length x.body)) (x.body ++ x.pad), length-append x.body x.pad, length-append (header_bytes d.form d.id (length d.body)) (d.body ++ d.pad), length-append d.body d.pad)
 
 -- where ds64 is, the new one is the old one but for riffSize
-abbrev Sized : Bool → Form → ℕ → List Chunk → Type 0
+abbrev pub Sized : Bool → Form → ℕ → List Chunk → Type 0
 Sized false form n ds = (ds ≡ []) × (sized_ds64 form n ds ≡ [])
 Sized true form n ds = (d : Chunk) × (ds ≡ d ∷ []) × IsDs64 d × (sized_ds64 form n ds ≡ sized_one form n d ∷ [])
 
@@ -137,7 +138,7 @@ first_of : (t : Bool) (ds cs : List Chunk) → HasDs64 t ds → (firsts t (ds ++
 first_of false ds cs h = (sym h, ap (λ (x : List Chunk). x ++ cs) h)
 first_of true ds cs h = (ap (λ (x : List Chunk). firsts true (x ++ cs)) h.1 ∙ sym h.1, ap (λ (x : List Chunk). others true (x ++ cs)) h.1)
 
-kind_len : (id : List ℕ) → is_kind id ≡ true → length id ≡ 4
+pub kind_len : (id : List ℕ) → is_kind id ≡ true → length id ≡ 4
 kind_len id e = go (bytes_eq id (codes "RIFF")) (bytes_eq id (codes "RF64")) refl refl e
   where
     go : (t u : Bool) → bytes_eq id (codes "RIFF") ≡ t → bytes_eq id (codes "RF64") ≡ u → ((t || false) || (u || false)) ≡ true → length id ≡ 4
@@ -151,7 +152,7 @@ pub supported_again : (w : Wave) → Readable w → is_kind w.id ≡ true → Ha
 supported_again w h k d c p =
     let b = spell_wave w in
     let again = wave_again w h in
-    let eight = body_at w h.form_fine h.id_len in
+    let eight = body_at w (is_form w.form w.id (length (inner w)) h.form_fine) h.id_len in
     record {
       form_id = ap is_kind (id_is w h) ∙ k;
       form_type = ap (take 4) eight;
@@ -222,6 +223,15 @@ junk_of c (d ∷ ds) body h j e =
 
 -- ---- the new file
 
+module _ (o : List ℕ) (bytes : IsBytes o) (sup : Supported o) (e : List RawItem) where
+  pub sized : Sized (is_big (take 4 o)) (wave_of o).form (new_size (wave_of o) e) (wave_of o).ds64
+  sized = sized_from (is_big (take 4 o)) (wave_of o).form (new_size (wave_of o) e) (wave_of o).ds64 (has_ds64 o bytes sup)
+
+  pub length_new : length (inner (new_wave (wave_of o) e)) ≡ new_size (wave_of o) e
+  length_new =
+      let rest = spell_all (new_children (wave_of o) e) ++ (wave_of o).left in
+      omega (arith, total_len (is_big (take 4 o)) (wave_of o).form (new_size (wave_of o) e) (wave_of o).ds64 sized, length-append (spell_all (sized_ds64 (wave_of o).form (new_size (wave_of o) e) (wave_of o).ds64)) rest, length-append (spell_all (wave_of o).ds64) rest)
+
 module _ (o : List ℕ) (bytes : IsBytes o) (sup : Supported o) (e : List RawItem) (f : ItemsFine e) (fits : Fits (wave_of o) e) where
   abbrev w : Wave
   w = wave_of o
@@ -229,13 +239,11 @@ module _ (o : List ℕ) (bytes : IsBytes o) (sup : Supported o) (e : List RawIte
   abbrev n : Wave
   n = new_wave (wave_of o) e
 
-  sized : Sized (is_big (take 4 o)) (wave_of o).form (new_size (wave_of o) e) (wave_of o).ds64
-  sized = sized_from (is_big (take 4 o)) (wave_of o).form (new_size (wave_of o) e) (wave_of o).ds64 (has_ds64 o bytes sup)
+  new_len : length (inner (new_wave (wave_of o) e)) ≡ new_size (wave_of o) e
+  new_len = length_new o bytes sup e
 
-  pub new_len : length (inner (new_wave (wave_of o) e)) ≡ new_size (wave_of o) e
-  new_len =
-      let rest = spell_all (new_children w e) ++ w.left in
-      omega (arith, total_len (is_big (take 4 o)) w.form (new_size w e) w.ds64 sized, length-append (spell_all (sized_ds64 w.form (new_size w e) w.ds64)) rest, length-append (spell_all w.ds64) rest)
+  all_sized : Sized (is_big (take 4 o)) (wave_of o).form (new_size (wave_of o) e) (wave_of o).ds64
+  all_sized = sized o bytes sup e
 
   new_fine : FormFine (new_wave (wave_of o) e).form (new_wave (wave_of o) e).id (length (inner (new_wave (wave_of o) e)))
   new_fine = rw new_len (go w.form (form_fine o bytes sup) fits.form)
@@ -255,13 +263,13 @@ module _ (o : List ℕ) (bytes : IsBytes o) (sup : Supported o) (e : List RawIte
   id_len = kind_len (take 4 o) sup.form_id
 
   new_eight : drop 8 (spell_wave (new_wave (wave_of o) e)) ≡ inner (new_wave (wave_of o) e) ++ ((new_wave (wave_of o) e).pad ++ (new_wave (wave_of o) e).tail)
-  new_eight = body_at (new_wave (wave_of o) e) new_fine id_len
+  new_eight = body_at (new_wave (wave_of o) e) (old_form o bytes sup) id_len
 
   new_ds64 : HasDs64 (is_big (take 4 o)) (new_wave (wave_of o) e).ds64
-  new_ds64 = new_has (is_big (take 4 o)) w.form (new_size w e) w.ds64 sized
+  new_ds64 = new_has (is_big (take 4 o)) w.form (new_size w e) w.ds64 all_sized
 
   same_sizes : sizes_of (spell_wave (new_wave (wave_of o) e)) ≡ sizes_of o
-  same_sizes = ap (λ (x : List ℕ). cond (is_big x) (table_of (drop 20 (spell_wave n))) plain_sizes) (id_at n new_fine id_len) ∙ go (is_big (take 4 o)) sized
+  same_sizes = ap (λ (x : List ℕ). cond (is_big x) (table_of (drop 20 (spell_wave n))) plain_sizes) (id_at n (old_form o bytes sup) id_len) ∙ go (is_big (take 4 o)) all_sized
     where
       go : (t : Bool) → Sized t w.form (new_size w e) w.ds64 → cond t (table_of (drop 20 (spell_wave n))) plain_sizes ≡ cond t (table_of (drop 20 o)) plain_sizes
       go false h = refl
@@ -275,7 +283,7 @@ module _ (o : List ℕ) (bytes : IsBytes o) (sup : Supported o) (e : List RawIte
           ap table_of new ∙ table_same x.body d.body _ _ s.behind s.len i.long i.holds_rows ∙ sym (ap table_of old)
 
   riff_size_is : (new_wave (wave_of o) e).form ≡ wide → le64 (drop 20 (spell_wave (new_wave (wave_of o) e))) ≡ length (inner (new_wave (wave_of o) e))
-  riff_size_is form = go (is_big (take 4 o)) refl sized
+  riff_size_is form = go (is_big (take 4 o)) refl all_sized
     where
       big : is_big (take 4 o) ≡ true
       big = let g : FormFine wide w.id (length (inner w)) = rw form at (form_fine o bytes sup) in g
@@ -318,7 +326,7 @@ module _ (o : List ℕ) (bytes : IsBytes o) (sup : Supported o) (e : List RawIte
       go (c ∷ cs) l x = omega (arith, Rattle.container_model.proofs.Codec.as_many (c ∷ cs), length-append (spell_all (c ∷ cs)) (wave_of o).left, ap length x)
 
   all_pads : Pads ((new_wave (wave_of o) e).ds64 ++ (new_wave (wave_of o) e).children) (wave_of o).left
-  all_pads = go (is_big (take 4 o)) sized (old_pads o bytes sup)
+  all_pads = go (is_big (take 4 o)) all_sized (old_pads o bytes sup)
     where
       go : (t : Bool) → Sized t w.form (new_size w e) w.ds64 → Pads (w.ds64 ++ w.children) w.left → Pads (n.ds64 ++ new_children w e) w.left
       go false h p = subst (λ (ds : List Chunk). Pads (ds ++ new_children w e) w.left) (sym h.1) (new_pads o bytes sup e f fits)
@@ -466,7 +474,7 @@ module _ (o : List ℕ) (bytes : IsBytes o) (sup : Supported o) (e : List RawIte
   -- ---- the first chunk
 
   pub new_junk : (body : List ℕ) → first_junk (wave_of o) ≡ body ∷ [] → first_junk (new_wave (wave_of o) e) ≡ body ∷ []
-  new_junk body h = go (is_big (take 4 o)) sized
+  new_junk body h = go (is_big (take 4 o)) all_sized
     where
       plain_first : (cs : List Chunk) → w.ds64 ≡ [] → w.children ≡ cs → junk_first cs ≡ body ∷ [] → junk_first (new_children w e) ≡ body ∷ []
       plain_first [] a b j = absurd cc

@@ -15,7 +15,7 @@ use Rattle.carrier_model.specs.Info.{own_size}
 use Rattle.wave_model.specs.Wave.{le32, le64, is_big, is_wide, form_kind, form_size, form_body, behind_form, rows, sizes_of, form_run, firsts, others, wave_of, inner, spell_wave}
 use Rattle.wave_model.specs.Edited.{Ds64Fine, Supported, formats}
 use Rattle.wave_model.proofs.Read.{most, OfRiff, IsRead, chunks_fine, read_heads, short_rest}
-use Rattle.wave_model.proofs.Again.{field_of, FormFine, spelled}
+use Rattle.wave_model.proofs.Again.{field_of, FormFine, IsForm, is_form, spelled}
 use Rattle.wave_model.proofs.Ds64.{IsDs64, HasDs64, first_id, first_size, first_rows, wide_size}
 
 -- ---- the first chunk and the others
@@ -80,6 +80,9 @@ module _ (o : List ℕ) (bytes : IsBytes o) (sup : Supported o) where
   pub form_fine : FormFine (wave_of o).form (wave_of o).id (length (inner (wave_of o)))
   form_fine = rw inner_len (form_by (is_wide o) refl).0
 
+  pub old_form : IsForm (wave_of o).form
+  old_form = is_form (wave_of o).form (wave_of o).id (length (inner (wave_of o))) form_fine
+
   pub behind_body : drop 8 o ≡ inner (wave_of o) ++ ((wave_of o).pad ++ (wave_of o).tail)
   behind_body =
       sym (take-append-drop (form_size o) (drop 8 o)) ∙ ap (λ (x : List ℕ). x ++ behind_form o) (sym inner_is)
@@ -90,7 +93,7 @@ module _ (o : List ℕ) (bytes : IsBytes o) (sup : Supported o) where
   spelled_is =
       let w = wave_of o in
       let field : take 4 (drop 4 o) ≡ field_of w.form (length (inner w)) = (form_by (is_wide o) refl).1 ∙ ap (field_of w.form) (sym inner_len) in
-      eight o ∙ ap (λ (x : List ℕ). take 4 o ++ (x ++ drop 8 o)) field ∙ ap (λ (x : List ℕ). take 4 o ++ (field_of w.form (length (inner w)) ++ x)) behind_body ∙ sym (spelled w form_fine)
+      eight o ∙ ap (λ (x : List ℕ). take 4 o ++ (x ++ drop 8 o)) field ∙ ap (λ (x : List ℕ). take 4 o ++ (field_of w.form (length (inner w)) ++ x)) behind_body ∙ sym (spelled w old_form)
 
   pub old_pad : PadStands riff (length (inner (wave_of o))) (wave_of o).pad (wave_of o).tail
   old_pad =

@@ -1,5 +1,6 @@
 -- The law of the edited file.
-use Rattle.std.proofs.Common.{◌≡◌, ℕ, suc, Bool, true, false, cond, eqb, List, [], ◌∷◌, ◌++◌, length, take, drop, None, refl, sym, ap, subst, ◌∙◌, arith}
+use Rattle.std.proofs.Common.{◌≡◌, ℕ, suc, Bool, true, false, cond, eqb, List, [], ◌∷◌, ◌++◌, length, take, drop, None, refl, sym, ap, subst, ◌∙◌, arith, inl, inr, ◌≤◌, ◌-◌, ◌^◌}
+use Rattle.std.specs.Prelude.{◌⊎◌}
 use Rattle.std.specs.Int.{w64, to_le_bytes, from_le_bytes}
 use Rattle.std.specs.List.{flat_map, filter_map}
 use Rattle.std.proofs.lemmas.Bool.{cond-true, eq-eqb}
@@ -24,9 +25,9 @@ use Rattle.carrier_model.specs.Large.{first_above}
 use Rattle.wave_model.specs.Wave.{le64, is_big, is_wide, form_kind, form_size, kind_of, Wave, wave_of, inner, spell_wave, cells_of}
 use Rattle.wave_model.specs.Fields.{fields, fields_of, nodes}
 use Rattle.wave_model.specs.Carry.{steps, carried, placed}
-use Rattle.wave_model.specs.New.{fill_of, new_children, new_size, new_pad, with_riff_size, sized_ds64, new_wave, new_file}
+use Rattle.wave_model.specs.New.{fill_of, new_children, new_size, new_pad, with_riff_size, sized_ds64, new_wave, new_file, new_size_of}
 use Rattle.wave_model.specs.Edited.{kept_in, kept_of, pieces_in, Supported, first_junk, Edited}
-use Rattle.wave_model.specs.Large.{all_sizes, large_by, too_large}
+use Rattle.wave_model.specs.Large.{FormSmall, all_sizes, large_by, too_large}
 use Rattle.wave_model.proofs.Ds64.{IsDs64, HasDs64, at_twenty, behind_first}
 use Rattle.wave_model.proofs.Form.{inner_len, behind_body, spelled_is, old_pads, has_ds64}
 use Rattle.wave_model.proofs.Cells.{was_cells, pads_cells, unedited, still_all}
@@ -180,3 +181,13 @@ edited_law o e bytes sup b l = go (effective (fields o) e) refl l
     go : (is : List EditItem) → effective (fields o) e ≡ is → large_by is (wave_of o) (raw_items (fields o) e) ≡ None → Edited o e (new_file o e)
     go [] none l = idle_law o bytes sup e none
     go (i ∷ is) some l = busy_law o bytes sup e b l
+
+-- What passes no limit is no longer than a file can be.
+pub small_file : (o : List ℕ) (e : List EditItem) → too_large o e ≡ None → (effective (fields o) e ≡ []) ⊎ ((length (new_file o e) ≤ 2 ^ 63 - 1) × FormSmall (wave_of o).form (wave_of o).id (new_size_of o e))
+unfolding new_file
+small_file o e l = go (effective (fields o) e) refl l
+  where
+    go : (is : List EditItem) → effective (fields o) e ≡ is → large_by is (wave_of o) (raw_items (fields o) e) ≡ None
+        → (effective (fields o) e ≡ []) ⊎ ((length (spell_wave (new_wave (wave_of o) (raw_items (fields o) e))) ≤ 2 ^ 63 - 1) × FormSmall (wave_of o).form (wave_of o).id (new_size_of o e))
+    go [] none l = inl none
+    go (i ∷ is) some l = let fits = fits_from (wave_of o) (raw_items (fields o) e) l in inr (fits.file, fits.form)

@@ -14,3 +14,5 @@ pub mod New
 pub mod Edited
 pub mod Items
 pub mod Law
+pub mod Why
+pub mod Spans

@@ -29,7 +29,7 @@ use Rattle.wave_model.specs.Fields.{has_id, is_bext, is_whole, is_info, is_marke
 use Rattle.wave_model.specs.Carry.{info_part, edits_bext, names_whole, or_last, whole_part, bext_act, steps, carried, stepped}
 use Rattle.wave_model.specs.New.{is_nil, ends_file, fill_of, new_children, new_size, new_pad, new_wave}
 use Rattle.wave_model.specs.Edited.{is_carrier, parts, Supported}
-use Rattle.wave_model.specs.Large.{most_by, form_sizes, all_sizes}
+use Rattle.wave_model.specs.Large.{form_sizes, FormSmall, all_sizes}
 use Rattle.wave_model.proofs.Read.{most, OfRiff, IsRead, neutral}
 use Rattle.wave_model.proofs.Steps.{AllMake, live_carried, gaps_carried, pads_carried, NowCells, now_carried, now_live, now_both, Own, heads_carried, cell_heads, same_state}
 use Rattle.wave_model.proofs.Acts.{IsMade, all_made, all_own, bext_after, whole_after, junk_bext, junk_whole}
@@ -42,10 +42,6 @@ use Rattle.wave_model.proofs.Form.{form_fine, old_heads, old_fine, old_pads, has
 use Rattle.wave_model.proofs.Cells.{gaps_cells, all_cells, pads_cells, now_cells, heads_cells, Ignores, view_cells, view_laid}
 
 -- ---- what isn't too large
-
-abbrev pub FormSmall : Form → List ℕ → ℕ → Type 0
-FormSmall wide id n = Unit {0}
-FormSmall _ id n = n ≤ most_by (is_big id)
 
 pub record Fits (w : Wave) (e : List RawItem) : Type 0 where
   pub lists : AllByRecursion (λ b. length b ≤ 2 ^ 24) (bodies is_info (new_children w e))

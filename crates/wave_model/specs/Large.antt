@@ -1,5 +1,5 @@
 -- What is too large in the new file: the first of these sizes that passes its limit (this project's own).
-use Rattle.std.specs.Prelude.{ℕ, ◌-◌, ◌^◌, List, [], ◌∷◌, ◌++◌, length, map, Bool, true, false, Option, None}
+use Rattle.std.specs.Prelude.{◌≤◌, ℕ, ◌-◌, ◌^◌, List, [], ◌∷◌, ◌++◌, length, map, Bool, true, false, Option, None}
 use Rattle.part_tree.specs.declared.field.EditItem.{EditItem}
 use Rattle.field_model.specs.Update.{RawItem, raw_items, effective}
 use Rattle.container_model.specs.Chunk.{Form, wide}
@@ -18,6 +18,11 @@ most_by false = 2 ^ 32 - 1
 abbrev pub form_sizes : Form → List ℕ → ℕ → List Size
 form_sizes wide id n = []
 form_sizes _ id n = limited (most_by (is_big id)) n ∷ []
+
+-- a form's own field holds its size
+abbrev pub FormSmall : Form → List ℕ → ℕ → Type 0
+FormSmall wide id n = Unit {0}
+FormSmall _ id n = n ≤ most_by (is_big id)
 
 -- each list, the parts, the form, and the file
 abbrev pub all_sizes : Wave → List RawItem → List Size

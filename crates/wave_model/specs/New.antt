@@ -75,6 +75,12 @@ edit_cuts w e =
     cuts (fill_of w) (children_at w) (pieces_of w e)
     ++ pad_cut (8 + length (inner w)) w.pad (new_pad (length (inner w)) (new_size w e) w.pad w.tail)
 
+abbrev pub cuts_of : List ℕ → List EditItem → List Cut
+cuts_of o e = edit_cuts (wave_of o) (raw_items (fields o) e)
+
+abbrev pub new_size_of : List ℕ → List EditItem → ℕ
+new_size_of o e = new_size (wave_of o) (raw_items (fields o) e)
+
 -- the form's size set: in its own field, or in ds64
 abbrev pub with_size : Form → ℕ → List ℕ → List ℕ
 with_size wide n b = take 20 b ++ (to_le_bytes w64 n ++ drop 28 b)

@@ -110,13 +110,5 @@ chunks_why b =
     children_why (12 + length (spell_all w.ds64)) (nothing_seen (length w.ds64)) w.children (last_why (form_run b).stop w.left)
 
 -- kind, ds64, form, chunks
-abbrev pub why_by : List ℕ → Option Why → Option Why
-why_by b (Some w) = Some w
-why_by b None = elim (first (form_tests b)) [ Some w ↦ Some w | None ↦ chunks_why b ]
-
-abbrev pub why_of_kind : List ℕ → Option Why → Option Why
-why_of_kind b (Some w) = Some w
-why_of_kind b None = why_by b (ds64_why (is_big (take 4 b)) b)
-
 unfoldable pub why : List ℕ → Option Why
-why b = why_of_kind b (first (kind_tests b))
+why b = or_else (first (kind_tests b)) (or_else (ds64_why (is_big (take 4 b)) b) (or_else (first (form_tests b)) (chunks_why b)))

@@ -2,17 +2,19 @@
 //! for `bext`; EBU Tech 3306 for RF64). It knows no device.
 #![tactic(auto)]
 
-ghost use Rattle.std.specs.Prelude.{◌≡◌, ℕ, List, [], None};
+ghost use Rattle.std.specs.Prelude.{◌≡◌, ◌≤◌, ◌-◌, ◌^◌, ◌↔◌, ◌⊎◌, ℕ, List, [], None, length};
 ghost use Rattle.part_tree.specs.declared.field.EditItem.{EditItem};
 ghost use Rattle.part_tree.specs.declared.field.RuleSet.TheVariants.{Base};
 ghost use Rattle.me_bytes.specs.Bytes.{IsBytes};
 ghost use Rattle.field_model.specs.Broken.{broken};
 ghost use Rattle.field_model.specs.Update.{effective};
-ghost use Rattle.wave_model.specs.Wave.{kind_of};
+ghost use Rattle.container_model.specs.Splice.{splice, Ascend};
+ghost use Rattle.wave_model.specs.Wave.{kind_of, wave_of};
 ghost use Rattle.wave_model.specs.Fields.{fields};
-ghost use Rattle.wave_model.specs.New.{new_file};
+ghost use Rattle.wave_model.specs.New.{new_file, cuts_of, new_size_of, with_size};
 ghost use Rattle.wave_model.specs.Edited.{Supported, Edited};
-ghost use Rattle.wave_model.specs.Large.{too_large};
+ghost use Rattle.wave_model.specs.Large.{too_large, FormSmall};
+ghost use Rattle.wave_model.specs.Why.{why};
 
 /// For every supported file and every edit that breaks no basic rule and is not too large, the new file is the old one
 /// edited: it is supported; its fields read back as the old ones updated; every other part is kept in its order; the
@@ -24,4 +26,23 @@ pub fn new_file_is_edited()
 /// An edit of which no item has an effect gives the same file.
 pub fn idle_edit_keeps_the_file()
     ensures { (o : List ℕ) (e : List EditItem) → IsBytes o → Supported o → effective (fields o) e ≡ [] → new_file o e ≡ o }
+{}
+
+/// A file is supported exactly where no refusal is found.
+pub fn refusals_are_exact()
+    ensures { (b : List ℕ) → (why b ≡ None) ↔ Supported b }
+{}
+
+/// The new file is the old one with the spans of the edit replaced and the form's size set, and these spans ascend, are
+/// disjoint and lie in the old file.
+pub fn new_file_is_spliced()
+    ensures spliced { (o : List ℕ) (e : List EditItem) → IsBytes o → Supported o → new_file o e ≡ with_size (wave_of o).form (new_size_of o e) (splice o (cuts_of o e)) }
+    ensures ascend { (o : List ℕ) (e : List EditItem) → IsBytes o → Supported o → Ascend 0 (cuts_of o e) (length o) }
+{}
+
+/// Where an item has an effect and nothing is too large, the new file has at most 2^63-1 bytes, and its form's size
+/// fits the field that holds it.
+pub fn new_file_is_no_larger()
+    ensures { (o : List ℕ) (e : List EditItem) → too_large o e ≡ None
+        → (effective (fields o) e ≡ []) ⊎ ((length (new_file o e) ≤ 2 ^ 63 - 1) × FormSmall (wave_of o).form (wave_of o).id (new_size_of o e)) }
 {}
