@@ -38,10 +38,10 @@ use Rattle.mov_model.proofs.Still.{stay_law}
 -- ---- a unit that fits
 
 -- what stands in a slot, where a unit fits that doesn't end the file: its spelling and padding, whose body is the last bytes of the slot
-record Fits (slot u p : List ℕ) : Type 0 where
-  room : length (u ++ take 8 p) ≤ length slot
-  kept : take 8 p ++ drop (length (u ++ take 8 p)) slot ≡ p
-  fills : length (u ++ p) ≡ length slot
+pub record Fits (slot u p : List ℕ) : Type 0 where
+  pub room : length (u ++ take 8 p) ≤ length slot
+  pub kept : take 8 p ++ drop (length (u ++ take 8 p)) slot ≡ p
+  pub fills : length (u ++ p) ≡ length slot
 
 or_false : (t : Bool) → (t || false) ≡ t
 or_false true = refl
@@ -90,10 +90,10 @@ fits_slot slot u h = go (eqb (length u) (length slot)) refl h
 fill_by : (ends last : Bool) (slot : List ℕ) (s : ℕ) → (ends && last) ≡ false → fill ends last slot s ≡ padding slot s
 fill_by ends last slot s e = cond-false (ends && last) [] (padding slot s) e
 
-fill_none : (ends last : Bool) (slot : List ℕ) (s : ℕ) → (ends && last) ≡ true → fill ends last slot s ≡ []
+pub fill_none : (ends last : Bool) (slot : List ℕ) (s : ℕ) → (ends && last) ≡ true → fill ends last slot s ≡ []
 fill_none ends last slot s e = cond-true (ends && last) [] (padding slot s) e
 
-piece_fits : (ends last : Bool) (slot u : List ℕ) → (ends && last) ≡ false → unit_fits (ends && last) (length slot) (length u) ≡ true → Fits slot u (spell_all (fill ends last slot (length u)))
+pub piece_fits : (ends last : Bool) (slot u : List ℕ) → (ends && last) ≡ false → unit_fits (ends && last) (length slot) (length u) ≡ true → Fits slot u (spell_all (fill ends last slot (length u)))
 piece_fits ends last slot u e h =
     subst (λ (cs : List Chunk). Fits slot u (spell_all cs)) (sym (fill_by ends last slot (length u) e)) (fits_slot slot u (ap (λ (t : Bool). unit_fits t (length slot) (length u)) (sym e) ∙ h))
 
@@ -288,13 +288,13 @@ module _ (o : List ℕ) (e : List EditItem) (bytes : IsBytes o) (sup : Supported
   abbrev ends : Bool
   ends = ends_file m c
 
-  abbrev behind : List ℕ
+  abbrev pub behind : List ℕ
   behind = behind_pieces m c (kids_joined o bytes sup) (moov_padless o bytes sup)
 
-  fit : units_fit ends ps ≡ true
+  pub fit : units_fit ends ps ≡ true
   fit = (and_parts (units_fit ends ps) _ room).0
 
-  only_last : LastOnly ps
+  pub only_last : LastOnly ps
   only_last = go (is_open m c)
     where
       made : LastOnly (pieces_of m c)
@@ -312,7 +312,7 @@ module _ (o : List ℕ) (e : List EditItem) (bytes : IsBytes o) (sup : Supported
   no_bytes [] x = refl
   no_bytes (k ∷ b) x = absurd cc
 
-  none_behind : ends ≡ true → behind ≡ []
+  pub none_behind : ends ≡ true → behind ≡ []
   none_behind x =
       let p = and_parts (is_open m c) (is_nil (rest_behind m c) && is_nil m.left) x in
       let q = and_parts (is_nil (rest_behind m c)) (is_nil m.left) p.1 in
@@ -328,7 +328,7 @@ module _ (o : List ℕ) (e : List EditItem) (bytes : IsBytes o) (sup : Supported
   old_is : o ≡ (b ++ head (length m.movie.body)) ++ (flat_map old_bytes ps ++ behind)
   old_is = sym (file_bytes o bytes sup) ∙ movie_bytes m c (kids_joined o bytes sup) (moov_padless o bytes sup)
 
-  old_len : length o ≡ kids_at m c + (old_length ps + length behind)
+  pub old_len : length o ≡ kids_at m c + (old_length ps + length behind)
   old_len = omega (arith, ap length old_is, length-append (b ++ head (length m.movie.body)) (flat_map old_bytes ps ++ behind), length-append b (head (length m.movie.body)), length-append (flat_map old_bytes ps) behind)
 
   place_stays : (p : ℕ) → p < length o → shift (edit_cuts m c) p ≡ p
@@ -353,7 +353,7 @@ module _ (o : List ℕ) (e : List EditItem) (bytes : IsBytes o) (sup : Supported
   abbrev size : ℕ
   size = length (new_movie m c).movie.body
 
-  moov_form : AtomForm m.movie.form
+  pub moov_form : AtomForm m.movie.form
   moov_form =
       let s = (at_moov o bytes sup).0 in
       (told_of top top (spell m.movie ++ (spell_all m.behind ++ m.left)) m.movie.id (m.movie.body ++ (m.movie.pad ++ (spell_all m.behind ++ m.left))) m.movie.form (length m.movie.body) s.header_read).4
@@ -368,7 +368,7 @@ module _ (o : List ℕ) (e : List EditItem) (bytes : IsBytes o) (sup : Supported
       go true x = old_is ∙ ap (λ (n : ℕ). (b ++ head n) ++ old_inner) (sym (eqb-true _ _ x))
       go false x = ap (patched (size_patch m.movie.form (length b) size)) old_is ∙ size_laid m.movie.form m.movie.id b old_inner (length m.movie.body) size moov_form (ap length sup.movie.is_moov)
 
-  new_is : new_file o e ≡ (b ++ head size) ++ (spell_all (lay (fill ends) ps) ++ behind)
+  pub new_is : new_file o e ≡ (b ++ head size) ++ (spell_all (lay (fill ends) ps) ++ behind)
   new_is =
       let y = spell_all (lay (fill ends) ps) ++ behind in
       stay_law o e bytes sup room_stays ∙ ap (λ (z : List ℕ). splice z (unit_cuts m c)) (sym (file_bytes o bytes sup))

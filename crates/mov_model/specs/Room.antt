@@ -1,5 +1,5 @@
 -- When an edit has room in place, and what is then written (this project's own).
-use Rattle.std.specs.Prelude.{ℕ, ◌+◌, ◌-◌, ◌^◌, ◌≡◌, nat_le, nat_lt, ◌==◌, List, [], ◌∷◌, ◌++◌, length, take, drop, filter, Bool, true, ◌&&◌, ◌||◌, not, if◌then◌else◌}
+use Rattle.std.specs.Prelude.{◌⊎◌, ◌<◌, ◌≤◌, ℕ, ◌+◌, ◌-◌, ◌^◌, ◌≡◌, nat_le, nat_lt, ◌==◌, List, [], ◌∷◌, ◌++◌, length, take, drop, filter, Bool, true, ◌&&◌, ◌||◌, not, if◌then◌else◌}
 use Rattle.std.specs.Int.{w32, w64, to_be_bytes}
 use Rattle.part_tree.specs.declared.field.EditItem.{EditItem}
 use Rattle.part_tree.specs.declared.field.Value.{Value}
@@ -76,3 +76,22 @@ has_room o e = units_fit (ends_file (movie_of o) (changes o e)) (whole_pieces (m
 -- the edit has room in place
 abbrev pub Room : List ℕ → List EditItem → Type 0
 Room o e = has_room o e ≡ true
+
+-- ---- how patches stand
+
+-- each patch has a byte, begins at or behind the end of the one before it, and ends at or before the new length
+abbrev pub InOrder : ℕ → ℕ → List Patch → Type 0
+InOrder new end [] = Unit {0}
+InOrder new end (p ∷ ps) = (0 < length p.bytes) × (end ≤ p.at) × (p.at + length p.bytes ≤ new) × InOrder new (p.at + length p.bytes) ps
+
+-- a place is in a patch
+abbrev pub Touches : ℕ → List Patch → Type 0
+Touches q [] = ⊥
+Touches q (p ∷ ps) = ((p.at ≤ q) × (q < p.at + length p.bytes)) ⊎ Touches q ps
+
+-- At most two patches, in order, of at most 16 MiB together, in which each place behind the old end lies.
+pub record PatchesFit (old new : ℕ) (ps : List Patch) : Type 0 where
+  pub few : length ps ≤ 2
+  pub in_order : InOrder new 0 ps
+  pub small : total ps ≤ 2 ^ 24
+  pub whole : (q : ℕ) → old ≤ q → q < new → Touches q ps

@@ -16,7 +16,7 @@ ghost use Rattle.part_tree.specs.declared.field.RuleSet.TheVariants.{Base};
 ghost use Rattle.part_tree.specs.declared.names.Kind.TheVariants.{Mov};
 ghost use Rattle.field_model.specs.Broken.{broken};
 ghost use Rattle.mov_model.specs.Cuts.{TablesStay, all_cuts, unit_cuts};
-ghost use Rattle.mov_model.specs.Room.{Room, patched, patches};
+ghost use Rattle.mov_model.specs.Room.{PatchesFit, Room, patched, patches};
 ghost use Rattle.mov_model.specs.Large.{too_large};
 
 /// For every supported movie and every edit of fields that keeps the rules of Base, and after which nothing is too large,
@@ -61,8 +61,9 @@ pub fn only_units_change()
 {}
 
 /// Where an edit has room, no chunk of a track moves, and the patches, laid over the old file at the new length, make the
-/// new file.
+/// new file. They are two at most, stand in order, and hold each place behind the old end.
 pub fn patches_make_new()
     ensures stay { (o : List ℕ) (e : List EditItem) → IsBytes o → Supported o → Room o e → TablesStay o e }
+    ensures fit { (o : List ℕ) (e : List EditItem) → IsBytes o → Supported o → Room o e → PatchesFit (length o) (length (new_file o e)) (patches o e) }
     ensures made { (o : List ℕ) (e : List EditItem) → IsBytes o → Supported o → Room o e → new_file o e ≡ take (length (new_file o e)) (patched (patches o e) o) }
 {}
