@@ -18,7 +18,7 @@ use Rattle.avi_model.proofs.Among.{Among, all_among, among_all, among_only, amon
 use Rattle.avi_model.proofs.Lies.{Level, Whole, stood_heads, kids_heads, stood_bytes, kids_bytes, kids_end, list_long, body_end, kids_inside, InStream, InMovi, InFurther, InOld, Lies, in_stream, in_movi, in_further, in_old}
 
 -- a list is of one type, and idx1 is no list
-type_one : (w v : List ℕ) (x : Stood) → bytes_eq w v ≡ false → is_type w x.chunk ≡ true → is_type v x.chunk ≡ true → ⊥
+pub type_one : (w v : List ℕ) (x : Stood) → bytes_eq w v ≡ false → is_type w x.chunk ≡ true → is_type v x.chunk ≡ true → ⊥
 type_one w v x differ a b =
     let same : w ≡ v = sym (type_is w x.chunk a).type_is ∙ (type_is v x.chunk b).type_is in
     let yes : bytes_eq w v ≡ true = ap (bytes_eq w) (sym same) ∙ (Rattle.std.proofs.lemmas.Slice.Eq.bytes_eq-Decides w w).1 refl in

@@ -18,6 +18,8 @@ pub mod Supports
 pub mod OldOne
 pub mod OldIndex
 pub mod Rules
+pub mod Sorted
+pub mod Whys
 pub mod Edited
 pub mod Types
 pub mod Lies

@@ -35,7 +35,7 @@ use Rattle.avi_model.proofs.Frames.{opened, readable, alone, same_cuts}
 use Rattle.avi_model.proofs.Essence.{new_is, past, movis_follow}
 use Rattle.avi_model.proofs.Kept.{lists_of, ready_by}
 
-all_both : {X : Type 0} (P : X → Type 0) (a b : List X) → AllByRecursion P a → AllByRecursion P b → AllByRecursion P (a ++ b)
+pub all_both : {X : Type 0} (P : X → Type 0) (a b : List X) → AllByRecursion P a → AllByRecursion P b → AllByRecursion P (a ++ b)
 all_both P [] b h g = g
 all_both P (x ∷ a) b h g = (h.0, all_both P a b h.1 g)
 

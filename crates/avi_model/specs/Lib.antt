@@ -2,6 +2,8 @@ pub mod Avi
 pub mod Index
 pub mod Pieces
 pub mod Support
+pub mod Reading
+pub mod Why
 pub mod NewFile
 pub mod Kept
 pub mod Edited
