@@ -15,20 +15,21 @@ use Rattle.field_model.specs.Broken.{broken}
 use Rattle.field_model.specs.Fields.{plain}
 use Rattle.field_model.specs.Update.{RawItem, effective, raw_item, raw_items, updated_values, is_bext, update}
 use Rattle.container_model.specs.Items.{updated}
-use Rattle.container_model.specs.Splice.{shift}
+use Rattle.container_model.specs.Splice.{Cut, splice, Ascend, shift}
 use Rattle.container_model.proofs.Items.{same_true, same_refl}
 use Rattle.carrier_model.specs.Info.{SetsInfo}
 use Rattle.carrier_model.specs.Lists.{Node, place_lists, place_by, place_nth, part_of, has_list}
-use Rattle.avi_model.specs.Avi.{Avi as AviFile, avi_of, inner, hdrls}
-use Rattle.avi_model.specs.Index.{move, writes}
+use Rattle.avi_model.specs.Avi.{Avi as AviFile, avi_of, inner, spell_avi, hdrls}
+use Rattle.avi_model.specs.Index.{move, writes, renumbered}
 use Rattle.avi_model.specs.Pieces.{pieces}
 use Rattle.avi_model.specs.Support.{Supported, movis}
-use Rattle.avi_model.specs.NewFile.{Items, home, new_children, edit_cuts, laid, laid_file, edited_file}
+use Rattle.avi_model.specs.NewFile.{Items, home, new_children, edit_cuts, laid, with_size, moves, laid_file, edited_file}
 use Rattle.avi_model.specs.Kept.{Kept, kept, placed}
 use Rattle.avi_model.specs.Edited.{info_values, fields, info_item, info_edit, changes, new_file, AreNamed, Edited}
 use Rattle.avi_model.specs.Large.{too_large_by, too_large, new_avi}
 use Rattle.avi_model.proofs.Read.{renewed_avi}
-use Rattle.avi_model.proofs.Frames.{again as read_again}
+use Rattle.avi_model.proofs.Frames.{same_cuts, ascends, over, again as read_again}
+use Rattle.avi_model.proofs.Spans.{laid_spliced}
 use Rattle.avi_model.proofs.Essence.{facts}
 use Rattle.avi_model.proofs.Fit.{Fits, fits_of}
 use Rattle.avi_model.proofs.Kept.{fields_updated, kept_placed, pieces_same}
@@ -180,3 +181,18 @@ edit_law o e bytes s named rules small =
     read v g (Whole id) = sym (other_name (Whole id) (λ x. x) (raw_items (fields o) e) g)
     read v g (User id) = sym (other_name (User id) (λ x. x) (raw_items (fields o) e) g)
     read v g (Bext field) = sym (Rattle.std.proofs.lemmas.Bool.cond-false (list_any (λ (i : RawItem). is_bext i.name) (raw_items (fields o) e)) _ _ (no_bext (raw_items (fields o) e) g))
+
+-- The file that is laid is the old one with its numbers moved, then spliced, then its form's size set.
+pub spliced_law : (o : List ℕ) (e : Items) → IsBytes o → Supported o
+    → (laid_file o e ≡ with_size (length (inner (new_avi o e).children (new_avi o e).left)) (splice (renumbered (move (moves o e)) o) (edit_cuts (avi_of o) e))) × Ascend 0 (edit_cuts (avi_of o) e) (length o)
+unfolding laid_file
+spliced_law o e bytes s =
+    let how = move (shift (edit_cuts (avi_of o) e)) in
+    let b = renewed_avi (writes how o) (avi_of o) in
+    let is : new_avi o e ≡ laid b e = ap (λ (x : AviFile). laid x e) (read_again o bytes s how) in
+    let size : length (inner (new_children b e) (avi_of o).left) ≡ length (inner (new_avi o e).children (new_avi o e).left) = ap (λ (x : AviFile). length (inner x.children x.left)) (sym is) in (
+      ap spell_avi is ∙ laid_spliced b e ∙ ap (λ (c : List Cut). with_size (length (inner (new_children b e) (avi_of o).left)) (splice (spell_avi b) c)) (same_cuts o bytes s how e)
+          ∙ ap (λ (y : List ℕ). with_size (length (inner (new_children b e) (avi_of o).left)) (splice y (edit_cuts (avi_of o) e))) (sym (over o bytes s how))
+          ∙ ap (λ (k : ℕ). with_size k (splice (renumbered how o) (edit_cuts (avi_of o) e))) size,
+      ascends o bytes s how e,
+    )

@@ -1,3 +1,4 @@
+pub mod Rows
 pub mod Numbers
 pub mod Pieces
 pub mod Read
@@ -20,6 +21,7 @@ pub mod OldIndex
 pub mod Rules
 pub mod Sorted
 pub mod Whys
+pub mod Exact
 pub mod Edited
 pub mod Types
 pub mod Lies

@@ -1,22 +1,19 @@
 -- A file is supported exactly where no test of the reading order holds.
-use Rattle.std.proofs.Common.{◌≡◌, ℕ, zero, suc, ◌+◌, ◌*◌, ◌<◌, ◌≤◌, Bool, true, false, cond, eqb, ltb, leb, List, [], ◌∷◌, ◌++◌, length, map, take, drop, Option, Some, None, refl, sym, ap, subst, ◌∙◌, arith, inl, inr}
-use Rattle.std.specs.Prelude.{◌⊎◌, ◌&&◌, ◌||◌, not, codes}
+use Rattle.std.proofs.Common.{◌≡◌, ℕ, suc, ◌+◌, ◌≤◌, Bool, true, false, cond, ltb, List, [], ◌∷◌, ◌++◌, length, drop, Some, None, refl, sym, ap, subst, ◌∙◌, arith}
+use Rattle.std.specs.Prelude.{◌&&◌, ◌||◌, not, codes}
 use Rattle.std.specs.List.{flat_map, AllByRecursion}
-use Rattle.std.proofs.lemmas.Bool.{ltb-false, le-ltb, leb-false, lt-leb, eqb-false, ne_eqb, and_parts}
-use Rattle.part_tree.specs.declared.why.Why.{Why}
-use Rattle.container_model.specs.Chunk.{Chunk, Stop, ends, bad_header, passes, out_of_turns, read, chunks, spell, spell_all}
+use Rattle.std.proofs.lemmas.Bool.{ltb-false, le-ltb, leb-false, lt-leb}
+use Rattle.container_model.specs.Chunk.{Chunk, Stop, ends, bad_header, passes, out_of_turns, read, chunks, spell}
 use Rattle.container_model.specs.Stood.{Stood, bare, stood, only, first_of}
 use Rattle.carrier_model.specs.Info.{is_type, list_run}
 use Rattle.avi_model.specs.Avi.{forms, Avi, avi_of, form_of, kids, top, others_at, hdrls, strls, Span, first_movi}
-use Rattle.avi_model.specs.Index.{Table, is_super, entries, super_places, streams, named, indexes, entry_offset, entry_length, index_base, row_offset, row_length, Base, from_start, from_movi, base, old_rows, olds, within, is_head, misses}
-use Rattle.avi_model.specs.Support.{begins, infos, movis, ListEnds, opened, count_kids, parts, part_limit, list_limit, SoundIndex, is_index_kind, is_standard_kind, has_header, has_entries, in_one, movi_spans, size_at, SoundPlace, by_place, Apart, entry_lies, SoundEntry, SoundEntries, is_based, SoundRow, SoundRows, Supported}
-use Rattle.avi_model.specs.Reading.{Step, form_at, part_at, end_at, list_end, part_of, flat_steps, stream_steps, hdrl_steps, inside_steps, is_info, top_steps, first_steps, further_steps, form_steps, reading, parts_in, parts_met}
-use Rattle.avi_model.specs.Why.{Test, first, ended, step_tests, steps_tests, list_tests, sound_tests, place_tests, head_of, stream_tests, overlap_tests, entry_tests, standard_tests, base_tests, row_tests, old_tests, tests, why}
-use Rattle.avi_model.proofs.Among.{Among, all_among, among_all, among_append, among_front, among_back, among_flat, flat_among}
+use Rattle.avi_model.specs.Support.{infos, ListEnds, opened, count_kids, parts, part_limit, list_limit}
+use Rattle.avi_model.specs.Reading.{Step, form_at, part_at, end_at, list_end, part_of, flat_steps, stream_steps, hdrl_steps, inside_steps, is_info, top_steps, first_steps, further_steps, form_steps, parts_met}
+use Rattle.avi_model.specs.Why.{Test, first, ended, steps_tests}
+use Rattle.avi_model.proofs.Among.{Among, all_among, among_all, among_flat, flat_among}
 use Rattle.avi_model.proofs.Levels.{type_one}
 use Rattle.avi_model.proofs.Sound.{all_left, all_right}
 use Rattle.avi_model.proofs.Lists.{all_both}
-use Rattle.avi_model.proofs.Sorted.{among_sorted, from_sorted}
 
 -- ---- tests
 
@@ -35,27 +32,27 @@ pub none_first : (ts : List Test) → AllFalse ts → first ts ≡ None
 none_first [] h = refl
 none_first (t ∷ ts) h = rw h.0 (none_first ts h.1)
 
-flat_false : {X : Type 0} (g : X → List Test) (xs : List X) → AllFalse (flat_map g xs) → (x : X) → Among x xs → AllFalse (g x)
+pub flat_false : {X : Type 0} (g : X → List Test) (xs : List X) → AllFalse (flat_map g xs) → (x : X) → Among x xs → AllFalse (g x)
 flat_false g xs h x i = all_among (λ t. t.0 ≡ false) (g x) (λ t j. among_all (λ t. t.0 ≡ false) (flat_map g xs) h t (flat_among g xs x t i j))
 
-false_flat : {X : Type 0} (g : X → List Test) (xs : List X) → ((x : X) → Among x xs → AllFalse (g x)) → AllFalse (flat_map g xs)
+pub false_flat : {X : Type 0} (g : X → List Test) (xs : List X) → ((x : X) → Among x xs → AllFalse (g x)) → AllFalse (flat_map g xs)
 false_flat g xs h = all_among (λ t. t.0 ≡ false) (flat_map g xs) (λ t i. let m = among_flat g xs t i in among_all (λ t. t.0 ≡ false) (g m.from) (h m.from m.from_among) t m.in_it)
 
-not_is : (b : Bool) → not b ≡ false → b ≡ true
+pub not_is : (b : Bool) → not b ≡ false → b ≡ true
 not_is true e = refl
 not_is false e = absurd cc
 
-is_not : (b : Bool) → b ≡ true → not b ≡ false
+pub is_not : (b : Bool) → b ≡ true → not b ≡ false
 is_not true e = refl
 is_not false e = absurd cc
 
 -- a test that is guarded
-guarded : (a b : Bool) → (not a && not b) ≡ false → a ≡ false → b ≡ true
+pub guarded : (a b : Bool) → (not a && not b) ≡ false → a ≡ false → b ≡ true
 guarded true b e i = absurd cc
 guarded false true e i = refl
 guarded false false e i = absurd cc
 
-guard : (a b : Bool) → (a ≡ false → b ≡ true) → (not a && not b) ≡ false
+pub guard : (a b : Bool) → (a ≡ false → b ≡ true) → (not a && not b) ≡ false
 guard true b h = refl
 guard false b h = rw (h refl) refl
 
@@ -67,12 +64,12 @@ stop_ends out_of_turns e = absurd cc
 
 -- ---- the steps of reading
 
-abbrev StepFine : Step → Type 0
+abbrev pub StepFine : Step → Type 0
 StepFine (form_at x) = 4 ≤ length x.chunk.body
 StepFine (part_at info x) = info ≡ true → length x.chunk.body ≤ list_limit
 StepFine (end_at at stop) = stop ≡ ends
 
-abbrev AllFine : List Step → Type 0
+abbrev pub AllFine : List Step → Type 0
 AllFine ss = AllByRecursion StepFine ss
 
 small_false : (b : Bool) (n : ℕ) → (b && ltb list_limit n) ≡ false → b ≡ true → n ≤ list_limit
@@ -83,7 +80,7 @@ false_small : (b : Bool) (n : ℕ) → (b ≡ true → n ≤ list_limit) → (b 
 false_small true n h = le-ltb list_limit n (h refl)
 false_small false n h = refl
 
-steps_fine : (met : ℕ) (ss : List Step) → AllFalse (steps_tests met ss) → AllFine ss × (met ≤ part_limit → met + parts_met ss ≤ part_limit)
+pub steps_fine : (met : ℕ) (ss : List Step) → AllFalse (steps_tests met ss) → AllFine ss × (met ≤ part_limit → met + parts_met ss ≤ part_limit)
 steps_fine met [] h = (tt, λ l. omega arith)
 steps_fine met (form_at x ∷ ss) h =
     let z : met + 0 ≡ met = omega arith in
@@ -97,7 +94,7 @@ steps_fine met (end_at at stop ∷ ss) h =
     let again = steps_fine (met + 0) ss h.1 in
     ((stop_ends stop h.0, again.0), λ l. omega (arith, again.1 (omega arith)))
 
-fine_steps : (met : ℕ) (ss : List Step) → AllFine ss → met + parts_met ss ≤ part_limit → AllFalse (steps_tests met ss)
+pub fine_steps : (met : ℕ) (ss : List Step) → AllFine ss → met + parts_met ss ≤ part_limit → AllFalse (steps_tests met ss)
 fine_steps met [] h l = tt
 fine_steps met (form_at x ∷ ss) h l = (le-ltb (length x.chunk.body) 4 h.0, fine_steps (met + 0) ss h.1 (omega arith))
 fine_steps met (part_at info x ∷ ss) h l = (lt-leb part_limit met (omega arith), (false_small info (length x.chunk.body) h.0, fine_steps (met + 1) ss h.1 (omega arith)))
@@ -105,7 +102,7 @@ fine_steps met (end_at at stop ∷ ss) h l = (ap (λ (s : Stop). not (ended s)) 
 
 -- ---- lists
 
-parts_append : (a b : List Step) → parts_met (a ++ b) ≡ parts_met a + parts_met b
+pub parts_append : (a b : List Step) → parts_met (a ++ b) ≡ parts_met a + parts_met b
 parts_append [] b = omega arith
 parts_append (s ∷ a) b = omega (arith, parts_append a b)
 
@@ -335,11 +332,11 @@ top_count seen (x ∷ xs) = go (case_of seen x xs) (top_count (next seen x) xs)
 
 -- ---- all forms
 
-record FormsFine (cs : List Chunk) (a : Avi) : Type 0 where
-  long : AllByRecursion (λ c. 4 ≤ length c.body) cs
-  read_on : AllByRecursion (λ c. (list_run c).stop ≡ ends) cs
-  lists_end : AllByRecursion ListEnds (opened a)
-  small : AllByRecursion (λ x. length x.chunk.body ≤ list_limit) (infos a)
+pub record FormsFine (cs : List Chunk) (a : Avi) : Type 0 where
+  pub long : AllByRecursion (λ c. 4 ≤ length c.body) cs
+  pub read_on : AllByRecursion (λ c. (list_run c).stop ≡ ends) cs
+  pub lists_end : AllByRecursion ListEnds (opened a)
+  pub small : AllByRecursion (λ x. length x.chunk.body ≤ list_limit) (infos a)
 
 -- the further forms
 further_from : (at : ℕ) (cs : List Chunk) → AllFine (flat_map further_steps (stood at cs)) → AllByRecursion (λ c. 4 ≤ length c.body) cs × AllByRecursion (λ c. (list_run c).stop ≡ ends) cs
@@ -362,7 +359,7 @@ further_count at q (c ∷ cs) =
     let x : Stood = record { at = at; chunk = bare c } in
     omega (arith, parts_append (further_steps x) (flat_map further_steps (stood (at + length (spell c)) cs)), flat_count x, further_count (at + length (spell c)) (q + length (spell c)) cs)
 
-abbrev avi_from : List Chunk → List ℕ → Avi
+abbrev pub avi_from : List Chunk → List ℕ → Avi
 avi_from cs left = record {
   children = (chunks Rattle.container_model.specs.Sizes.riff_front Rattle.container_model.specs.Sizes.plain (drop 4 (Rattle.avi_model.specs.Avi.first_body cs))).chunks;
   left = (chunks Rattle.container_model.specs.Sizes.riff_front Rattle.container_model.specs.Sizes.plain (drop 4 (Rattle.avi_model.specs.Avi.first_body cs))).left;
@@ -371,7 +368,7 @@ avi_from cs left = record {
   tail = left;
 }
 
-forms_from : (cs : List Chunk) (left : List ℕ) → AllFine (form_steps (stood 0 cs)) → FormsFine cs (avi_from cs left)
+pub forms_from : (cs : List Chunk) (left : List ℕ) → AllFine (form_steps (stood 0 cs)) → FormsFine cs (avi_from cs left)
 unfolding chunks read
 forms_from [] left h = record { long = tt; read_on = tt; lists_end = tt; small = tt }
 forms_from (c ∷ cs) left h =
@@ -389,7 +386,7 @@ forms_from (c ∷ cs) left h =
       small = top_fine.small;
     }
 
-from_forms : (cs : List Chunk) (left : List ℕ) → FormsFine cs (avi_from cs left) → AllFine (form_steps (stood 0 cs))
+pub from_forms : (cs : List Chunk) (left : List ℕ) → FormsFine cs (avi_from cs left) → AllFine (form_steps (stood 0 cs))
 from_forms [] left h = tt
 from_forms (c ∷ cs) left h =
     let x : Stood = record { at = 0; chunk = bare c } in
@@ -399,7 +396,7 @@ from_forms (c ∷ cs) left h =
     let top_fine : TopFine false (kids x) = record { small = h.small; hdrls_end = all_left ListEnds (hdrls a) (strls a ++ infos a) h.lists_end; strls_end = all_left ListEnds (strls a) (infos a) more; infos_end = all_right ListEnds (strls a) (infos a) more } in
     all_both StepFine (first_steps x) (flat_map further_steps (stood q cs)) (h.long.0, all_both StepFine (top_steps false (kids x)) (list_end x ∷ []) (from_top false (kids x) top_fine) (h.read_on.0, tt)) (from_further q cs h.long.1 h.read_on.1)
 
-forms_count : (cs : List Chunk) (left : List ℕ) → parts_met (form_steps (stood 0 cs)) ≡ parts (avi_from cs left)
+pub forms_count : (cs : List Chunk) (left : List ℕ) → parts_met (form_steps (stood 0 cs)) ≡ parts (avi_from cs left)
 unfolding chunks read
 forms_count [] left = refl
 forms_count (c ∷ cs) left =

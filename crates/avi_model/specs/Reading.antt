@@ -1,7 +1,7 @@
 -- An AVI file as it is read: each form with its chunks in order, and those of the lists that are opened, depth first.
 use Rattle.std.specs.Prelude.{ℕ, ◌+◌, List, [], ◌∷◌, ◌++◌, length, Bool, true, false, ◌&&◌, ◌||◌, not, codes, if◌then◌else◌}
 use Rattle.std.specs.List.{flat_map}
-use Rattle.container_model.specs.Chunk.{Chunk, Stop, spell_all}
+use Rattle.container_model.specs.Chunk.{Stop, spell_all}
 use Rattle.container_model.specs.Stood.{Stood, stood}
 use Rattle.carrier_model.specs.Info.{is_type, list_run}
 use Rattle.avi_model.specs.Avi.{forms, kids}

@@ -4,14 +4,19 @@
 #![tactic(auto)]
 
 ghost use Rattle.std.specs.Prelude.{◌≡◌, ℕ, List, length, None};
+ghost use Rattle.container_model.specs.Splice.{splice, Ascend};
 ghost use Rattle.me_bytes.specs.Bytes.{IsBytes};
 ghost use Rattle.part_tree.specs.declared.field.EditItem.{EditItem};
 ghost use Rattle.part_tree.specs.declared.field.RuleSet.TheVariants.{Base};
 ghost use Rattle.part_tree.specs.declared.names.Kind.TheVariants.{Avi};
 ghost use Rattle.field_model.specs.Broken.{broken};
+ghost use Rattle.avi_model.specs.Avi.{avi_of, inner};
+ghost use Rattle.avi_model.specs.Index.{move, renumbered};
 ghost use Rattle.avi_model.specs.Support.{Supported};
+ghost use Rattle.avi_model.specs.Why.{why};
+ghost use Rattle.avi_model.specs.NewFile.{Items, edit_cuts, with_size, moves, laid_file};
 ghost use Rattle.avi_model.specs.Edited.{AreNamed, Edited, fields, new_file};
-ghost use Rattle.avi_model.specs.Large.{too_large};
+ghost use Rattle.avi_model.specs.Large.{too_large, new_avi};
 
 use part_tree as _;
 
@@ -20,4 +25,17 @@ use part_tree as _;
 /// forms.
 pub fn new_is_edited()
     ensures { (o : List ℕ) (e : List EditItem) → IsBytes o → Supported o → AreNamed e → broken Avi (fields o) e Base ≡ None → too_large o e ≡ None → Edited o e (new_file o e) }
+{}
+
+/// An AVI file is supported exactly where no test of the reading order holds.
+pub fn refusals_are_exact()
+    ensures { (b : List ℕ) → (why b ≡ None → Supported b) × (Supported b → why b ≡ None) }
+{}
+
+/// The new file is the old one with the numbers of its tables moved in their places, then the slots of units and the
+/// form's pad replaced, then the form's size set. The replaced spans ascend and lie in the old file.
+pub fn new_is_spliced()
+    ensures spliced { (o : List ℕ) (e : Items) → IsBytes o → Supported o
+        → laid_file o e ≡ with_size (length (inner (new_avi o e).children (new_avi o e).left)) (splice (renumbered (move (moves o e)) o) (edit_cuts (avi_of o) e)) }
+    ensures ascend { (o : List ℕ) (e : Items) → IsBytes o → Supported o → Ascend 0 (edit_cuts (avi_of o) e) (length o) }
 {}
