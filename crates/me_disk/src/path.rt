@@ -1,5 +1,5 @@
 // A depot over a path of the file system. Nothing is told of what it holds, so nothing is proved of that.
-ghost use Rattle.std.specs.Prelude.{◌≡◌, ◌≤◌};
+ghost use Rattle.std.specs.Prelude.{◌≡◌, IfOk};
 ghost use Rattle.me_disk.specs.Silent.{silent_disk, silent_lawful};
 
 use crate::counts::count_fault;
@@ -57,7 +57,9 @@ impl<R: Files + Clone + Drop> PathDepot<R> {
     /// # Errors
     ///
     /// `NoMemory` where there is none for the names.
-    pub fn new(rt: R, alloc: Global, path: &str) -> Result<PathDepot<R>, NoMemory> {
+    pub fn new(rt: R, alloc: Global, path: &str) -> Result<PathDepot<R>, NoMemory>
+        ensures { IfOk result (λ d. (d.faults ≡ 0) × (d.written ≡ 0) × (d.state ≡ WorkState.Closed)) }
+    {
         let place = Place {
             rt,
             main: String::from_str(alloc, path)?,

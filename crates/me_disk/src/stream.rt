@@ -166,7 +166,9 @@ pub struct StdSource<R> {
 
 impl<R: Read> StdSource<R> {
     /// A source of what this reader gives. Each error of the reader is counted as a fault.
-    pub fn new(reader: R) -> StdSource<R> {
+    pub fn new(reader: R) -> StdSource<R>
+        ensures { result.faults ≡ 0 }
+    {
         StdSource { reader, faults: 0 }
     }
 }
@@ -259,7 +261,9 @@ pub struct StdSink<W> {
 impl<W: Write> StdSink<W> {
     /// A sink that hands each piece to this writer and flushes it. Each error of the writer is counted as a fault, and
     /// so is a writer that takes nothing of a piece.
-    pub fn new(writer: W) -> StdSink<W> {
+    pub fn new(writer: W) -> StdSink<W>
+        ensures { result.faults ≡ 0 }
+    {
         StdSink { writer, faults: 0 }
     }
 
