@@ -1,5 +1,5 @@
 -- Worked rows: the new file, where it is written in place, and what is then patched.
-use Rattle.std.proofs.Common.{◌≡◌, ℕ, List, [], ◌∷◌, None, true, false, refl}
+use Rattle.std.proofs.Common.{◌≡◌, ℕ, List, [], ◌∷◌, Some, None, true, false, refl}
 use Rattle.std.specs.Prelude.{codes}
 use Rattle.part_tree.specs.Letters.{four}
 use Rattle.part_tree.specs.declared.field.Change.TheVariants.{Set}
@@ -10,10 +10,12 @@ use Rattle.container_model.specs.Units.{units}
 use Rattle.container_model.specs.Deep.{mend, leaves}
 use Rattle.container_model.specs.Walk.{walk}
 use Rattle.mov_model.specs.Movie.{edited_file}
-use Rattle.mov_model.specs.Edited.{new_file}
+use Rattle.mov_model.specs.Edited.{fields, new_file}
 use Rattle.mov_model.specs.Large.{too_large}
 use Rattle.mov_model.specs.Room.{has_room, patch, patches}
 use Rattle.mov_model.specs.Why.{why}
+use Rattle.mov_model.specs.Pieces.{pieces}
+use Rattle.mov_model.specs.Cuts.{offset_places}
 
 -- the edit that sets the name
 abbrev pub set : List ℕ → List EditItem
@@ -102,6 +104,19 @@ both_tracks = refl
 again : new_file n15 (set big) ≡ n15
 unfolding edited_file units chunks read mend
 again = refl
+
+-- what the tables of the first movie find, where its places stand, and the text that it has
+pieces_15 : pieces m15 ≡ record { chunks = Some (0, 0 ∷ 0 ∷ 0 ∷ 0 ∷ 0 ∷ 0 ∷ 0 ∷ 0 ∷ 0 ∷ 0 ∷ 0 ∷ 0 ∷ 0 ∷ 0 ∷ 0 ∷ 1 ∷ []) ∷ Some (0, 0 ∷ 0 ∷ 0 ∷ 0 ∷ 0 ∷ 0 ∷ 0 ∷ 1 ∷ []) ∷ []; samples = ((0 ∷ 0 ∷ 0 ∷ 0 ∷ 0 ∷ 0 ∷ 0 ∷ 0 ∷ []) ∷ []) ∷ ((0 ∷ 0 ∷ 0 ∷ 0 ∷ 0 ∷ 0 ∷ 0 ∷ 1 ∷ []) ∷ []) ∷ [] } ∷ []
+unfolding read chunks leaves
+pieces_15 = refl
+
+places_15 : offset_places m15 ≡ record { at = 124; len = 4 } ∷ record { at = 128; len = 4 } ∷ []
+unfolding read chunks walk
+places_15 = refl
+
+fields_15 : fields m15 (User (four (169 ∷ codes "nam"))) ≡ record { lang = 5575; raw = codes "Reel" } ∷ []
+unfolding read chunks
+fields_15 = refl
 
 pub fine_m15 : why m15 ≡ None
 unfolding read chunks walk leaves
