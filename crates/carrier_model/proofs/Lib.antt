@@ -4,3 +4,4 @@ pub mod Info
 pub mod Views
 pub mod Quiet
 pub mod Renewed
+pub mod Room

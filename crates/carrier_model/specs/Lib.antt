@@ -2,3 +2,4 @@ pub mod Cells
 pub mod Lists
 pub mod Info
 pub mod Large
+pub mod Room
