@@ -1,4 +1,5 @@
--- An AVI file: its forms, the chunks of the first one, and where its tables and its essence stand.
+-- An AVI file: its forms, the chunks of the first one, and where its tables and its essence stand (RIFF; AVI RIFF File
+-- Reference; OpenDML AVI File Format Extensions 1.02).
 use Rattle.std.specs.Prelude.{ℕ, ◌+◌, nat_le, List, [], ◌∷◌, ◌++◌, length, take, drop, Bool, true, false, ◌&&◌, codes}
 use Rattle.std.specs.Str.{bytes_eq}
 use Rattle.std.specs.List.{flat_map}
@@ -13,16 +14,20 @@ abbrev pub form_type : Bool → List ℕ
 form_type true = codes "AVI "
 form_type false = codes "AVIX"
 
+-- a header where the form is there
 abbrev pub avi_by : List ℕ → Bool → Header Bool
 avi_by b true = full_header riff (take 4 b) (from_le_bytes w32 (take 4 (drop 4 b))) (drop 8 b) false
 avi_by b false = too_short
 
+-- the header of a form: RIFF, a size and its type
 abbrev pub avi_front : Bool → List ℕ → Header Bool
 avi_front s b = avi_by b (nat_le 12 (length b) && (bytes_eq (take 4 b) (codes "RIFF") && bytes_eq (take 4 (drop 8 b)) (form_type s)))
 
+-- the forms that stand at the start of the file
 abbrev pub forms : List ℕ → Run
 forms b = chunks avi_front true b
 
+-- what is read of a file: the chunks of the first form and the bytes behind them, its pad, the further forms, and the tail
 pub record Avi : Type 0 where
   pub children : List Chunk
   pub left : List ℕ
@@ -30,9 +35,11 @@ pub record Avi : Type 0 where
   pub others : List Chunk
   pub tail : List ℕ
 
+-- the body of the first form
 abbrev pub inner : List Chunk → List ℕ → List ℕ
 inner cs left = codes "AVI " ++ (spell_all cs ++ left)
 
+-- the first form
 abbrev pub form_of : Avi → Chunk
 form_of a = record { form = riff; id = codes "RIFF"; body = inner a.children a.left; pad = a.pad }
 
@@ -40,24 +47,30 @@ form_of a = record { form = riff; id = codes "RIFF"; body = inner a.children a.l
 abbrev pub behind : Avi → List ℕ
 behind a = spell_all a.others ++ a.tail
 
+-- the bytes of a file
 abbrev pub spell_avi : Avi → List ℕ
 spell_avi a = spell (form_of a) ++ behind a
 
+-- the body of the first chunk, if there is one
 abbrev pub first_body : List Chunk → List ℕ
 first_body [] = []
 first_body (c ∷ cs) = c.body
 
+-- its pad
 abbrev pub first_pad : List Chunk → List ℕ
 first_pad [] = []
 first_pad (c ∷ cs) = c.pad
 
+-- the chunks behind it
 abbrev pub but_first : List Chunk → List Chunk
 but_first [] = []
 but_first (c ∷ cs) = cs
 
+-- the chunks of the first form
 abbrev pub form_run : List ℕ → Run
 form_run b = chunks riff_front plain (drop 4 (first_body (forms b).chunks))
 
+-- the parts of a file
 abbrev pub avi_of : List ℕ → Avi
 avi_of b = record {
   children = (form_run b).chunks;
@@ -69,6 +82,7 @@ avi_of b = record {
 
 -- ---- where things stand
 
+-- a chunk of an identifier
 abbrev pub has_id : List ℕ → Chunk → Bool
 has_id id c = bytes_eq c.id id
 
@@ -76,6 +90,7 @@ has_id id c = bytes_eq c.id id
 abbrev pub kids : Stood → List Stood
 kids x = stood (x.at + 12) (list_run x.chunk).chunks
 
+-- the chunks of the first form, where they stand
 abbrev pub top : Avi → List Stood
 top a = stood 12 a.children
 
@@ -87,6 +102,7 @@ others_at a = stood (length (spell (form_of a))) a.others
 abbrev pub hdrls : Avi → List Stood
 hdrls a = first_of (only (is_type (codes "hdrl")) (top a))
 
+-- the streams' lists in it
 abbrev pub strls : Avi → List Stood
 strls a = only (is_type (codes "strl")) (flat_map kids (hdrls a))
 
@@ -103,6 +119,7 @@ pub record Span : Type 0 where
   pub at : ℕ
   pub len : ℕ
 
+-- where the body of a chunk stands
 abbrev pub body_span : Stood → Span
 body_span x = record { at = x.at + 8; len = length x.chunk.body }
 
@@ -110,9 +127,11 @@ body_span x = record { at = x.at + 8; len = length x.chunk.body }
 abbrev pub is_movi : Chunk → Bool
 is_movi c = is_type (codes "movi") c
 
+-- the movi lists of all forms
 abbrev pub essence : Avi → List Stood
 essence a = only is_movi (top a) ++ flat_map (λ x. only is_movi (kids x)) (others_at a)
 
+-- the first of some bodies, and nothing where there is none
 abbrev pub first_span : List Stood → Span
 first_span [] = record { at = 0; len = 0 }
 first_span (x ∷ xs) = body_span x

@@ -30,6 +30,7 @@ abbrev pub info_item : FieldName → Option Value → Items
 info_item (Info id) value = record { name = id.0; value = option_map (λ (v : Value). v.raw) value } ∷ []
 info_item name value = []
 
+-- what items do to the lists
 abbrev pub info_edit : List RawItem → Items
 info_edit e = flat_map (λ (i : RawItem). info_item i.name i.value) e
 

@@ -12,6 +12,7 @@ use Rattle.avi_model.specs.NewFile.{Items, home}
 abbrev pub other_node : Chunk → List Node
 other_node c = if is_padding c then [] else other c.form c.id c.body ∷ []
 
+-- the node of a chunk, if it has one
 abbrev pub nodes_of : Chunk → List Node
 nodes_of c = nodes_in info info_items other_node c
 
@@ -22,6 +23,7 @@ pub record Kept : Type 0 where
   pub others : List Chunk
   pub tail : List ℕ
 
+-- what is kept of the parts of a file
 abbrev pub kept_in : Avi → Kept
 kept_in a = record { nodes = flat_map nodes_of a.children; left = a.left; others = a.others; tail = a.tail }
 
@@ -29,5 +31,6 @@ kept_in a = record { nodes = flat_map nodes_of a.children; left = a.left; others
 abbrev pub kept : List ℕ → Kept
 kept b = kept_in (avi_of (renumbered blank b))
 
+-- what is kept, with the edited fields where they stand
 abbrev pub placed : Kept → Items → Kept
 placed k e = record k { nodes = place_lists home e k.nodes }

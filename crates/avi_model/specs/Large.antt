@@ -20,10 +20,12 @@ pub record Check : Type 0 where
   pub fails : Bool
   pub told : Size
 
+-- the first test that fails
 abbrev pub first_failing : List Check → Option Size
 first_failing [] = None
 first_failing (c ∷ cs) = if c.fails then Some c.told else first_failing cs
 
+-- a size up to a limit
 abbrev pub at_most : ℕ → ℕ → Check
 at_most limit n = record { fails = nat_lt limit n; told = record { size = n; limit = limit } }
 
@@ -41,6 +43,7 @@ offset_checks base place = record { fails = nat_lt place base; told = record { s
 abbrev pub second_checks : ℕ → ℕ → List Check
 second_checks base place = record { fails = nat_le place base; told = record { size = place; limit = 0 } } ∷ record { fails = nat_lt limit32 (place - base); told = record { size = place; limit = limit32 } } ∷ []
 
+-- an entry of a standard index, if it is counted
 abbrev pub entry_checks : (ℕ → ℕ) → ℕ → ℕ → List ℕ → List Check
 entry_checks f old new r =
     if entry_length r == 0 then []
@@ -53,13 +56,16 @@ standard_checks f body (Some x) =
     let old = index_base body in
     flat_map (entry_checks f old ((old + f (old + x)) - (old + x))) (entries body)
 
+-- the entries of an index chunk; a super entry has room for every place
 abbrev pub index_checks : (ℕ → ℕ) → Table → List Check
 index_checks f t = if is_super t.body then [] else standard_checks f t.body (first_counted (entries t.body))
 
+-- an entry of idx1 that counts from the start
 abbrev pub row_checks : (ℕ → ℕ) → Base → List ℕ → List Check
 row_checks f from_movi r = []
 row_checks f from_start r = if row_length r == 0 then [] else at_most limit32 (f (row_offset r)) ∷ []
 
+-- the entries of idx1
 abbrev pub old_checks : (ℕ → ℕ) → Base → Table → List Check
 old_checks f base t = flat_map (row_checks f base) (old_rows t.body)
 
@@ -68,14 +74,17 @@ pub record Placed : Type 0 where
   pub at : ℕ
   pub checks : List Check
 
+-- a table put among others by place
 abbrev pub put_placed : Placed → List Placed → List Placed
 put_placed t [] = t ∷ []
 put_placed t (u ∷ us) = if nat_lt t.at u.at then t ∷ (u ∷ us) else u ∷ put_placed t us
 
+-- the tables by place
 abbrev pub by_place : List Placed → List Placed
 by_place [] = []
 by_place (t ∷ ts) = put_placed t (by_place ts)
 
+-- the checks of all tables
 abbrev pub tables_placed : (ℕ → ℕ) → List ℕ → List Placed
 tables_placed f o =
     map (λ t. record { at = t.at; checks = index_checks f t }) (indexes o)
@@ -87,6 +96,7 @@ tables_placed f o =
 abbrev pub new_avi : List ℕ → Items → Avi
 new_avi o e = laid (avi_of (renumbered (move (shift (edit_cuts (avi_of o) e))) o)) e
 
+-- the checks in their order: lists of fields, parts, the form, the entries by table, the file
 abbrev pub all_checks : List ℕ → Items → List Check
 all_checks o e =
     let n = new_avi o e in
@@ -100,5 +110,6 @@ abbrev pub too_large_by : List ℕ → Items → Option Size
 too_large_by o [] = None
 too_large_by o (i ∷ e) = first_failing (all_checks o (i ∷ e))
 
+-- the first limit that an edit passes
 abbrev pub too_large : List ℕ → List EditItem → Option Size
 too_large o e = too_large_by o (changes o e)

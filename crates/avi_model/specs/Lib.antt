@@ -8,3 +8,4 @@ pub mod NewFile
 pub mod Kept
 pub mod Edited
 pub mod Large
+pub mod Room

@@ -16,6 +16,7 @@ use Rattle.avi_model.specs.Index.{move, renumbered}
 abbrev pub Items : Type 0
 Items = List (Item (List ℕ))
 
+-- no bytes
 abbrev pub is_none : List ℕ → Bool
 is_none [] = true
 is_none (x ∷ xs) = false
@@ -31,15 +32,19 @@ abbrev pub cell_by : Chunk → Bool → Cell
 cell_by c true = gap c
 cell_by c false = kept c
 
+-- a chunk as padding or as kept
 abbrev pub cell_of : Chunk → Cell
 cell_of c = cell_by c (is_padding c)
 
+-- nothing stands behind the chunks of the first form
 abbrev pub ends_file : Avi → Bool
 ends_file a = is_none a.left && (is_none a.pad && is_none (behind a))
 
+-- the chunks of the first form with its lists edited
 abbrev pub new_cells : Avi → Items → List Cell
 new_cells a e = edit_list_cells info info_items home e (map cell_of a.children)
 
+-- the new chunks of the first form
 abbrev pub new_children : Avi → Items → List Chunk
 new_children a e = lay (riff_fill (ends_file a)) (units shut (new_cells a e))
 
@@ -47,9 +52,11 @@ new_children a e = lay (riff_fill (ends_file a)) (units shut (new_cells a e))
 abbrev pub new_pad : ℕ → ℕ → List ℕ → List ℕ → List ℕ
 new_pad old new pad more = if old == new then pad else (if (new % 2 == 1) && not (is_none more) then 0 ∷ [] else [])
 
+-- the form's new pad
 abbrev pub pad_after : Avi → Items → List ℕ
 pad_after a e = new_pad (length (inner a.children a.left)) (length (inner (new_children a e) a.left)) a.pad (behind a)
 
+-- the parts of the new file
 abbrev pub laid : Avi → Items → Avi
 laid a e = record a { children = new_children a e; pad = pad_after a e }
 
@@ -57,6 +64,7 @@ laid a e = record a { children = new_children a e; pad = pad_after a e }
 abbrev pub pad_cut : ℕ → List ℕ → List ℕ → List Cut
 pad_cut at old new = if bytes_eq old new then [] else record { at = at; len = length old; bytes = new } ∷ []
 
+-- the spans that are replaced: the slots of units, and the pad of the form
 abbrev pub edit_cuts : Avi → Items → List Cut
 edit_cuts a e =
     cuts (riff_fill (ends_file a)) 12 (units shut (new_cells a e))

@@ -12,9 +12,11 @@ pub data Step : Type 0 where
   part_at : Bool → Stood → Step
   end_at : ℕ → Stop → Step
 
+-- the end of the chunks of a list
 abbrev pub list_end : Stood → Step
 list_end x = end_at (x.at + 12 + length (spell_all (list_run x.chunk).chunks)) (list_run x.chunk).stop
 
+-- a chunk that is not opened
 abbrev pub part_of : Stood → List Step
 part_of x = part_at false x ∷ []
 
@@ -26,6 +28,7 @@ flat_steps x = flat_map part_of (kids x) ++ list_end x ∷ []
 abbrev pub stream_steps : Stood → List Step
 stream_steps x = part_at false x ∷ (if is_type (codes "strl") x.chunk then flat_steps x else [])
 
+-- the chunks of hdrl
 abbrev pub hdrl_steps : Stood → List Step
 hdrl_steps x = flat_map stream_steps (kids x) ++ list_end x ∷ []
 
@@ -35,24 +38,30 @@ inside_steps true info x = hdrl_steps x
 inside_steps false true x = flat_steps x
 inside_steps false false x = []
 
+-- a list of fields
 abbrev pub is_info : Stood → Bool
 is_info x = is_type (codes "INFO") x.chunk
 
+-- the chunks of the first form
 abbrev pub top_steps : Bool → List Stood → List Step
 top_steps seen [] = []
 top_steps seen (x ∷ xs) =
     part_at (is_info x) x ∷ (inside_steps (not seen && is_type (codes "hdrl") x.chunk) (is_info x) x ++ top_steps (seen || is_type (codes "hdrl") x.chunk) xs)
 
+-- the first form
 abbrev pub first_steps : Stood → List Step
 first_steps x = form_at x ∷ (top_steps false (kids x) ++ list_end x ∷ [])
 
+-- a further form
 abbrev pub further_steps : Stood → List Step
 further_steps x = form_at x ∷ flat_steps x
 
+-- all forms
 abbrev pub form_steps : List Stood → List Step
 form_steps [] = []
 form_steps (x ∷ xs) = first_steps x ++ flat_map further_steps xs
 
+-- what is met when a file is read
 abbrev pub reading : List ℕ → List Step
 reading b = form_steps (stood 0 (forms b).chunks) ++ end_at (length (spell_all (forms b).chunks)) (forms b).stop ∷ []
 
@@ -62,6 +71,7 @@ parts_in (form_at x) = 0
 parts_in (part_at info x) = 1
 parts_in (end_at at stop) = 0
 
+-- how many chunks are met in these steps
 abbrev pub parts_met : List Step → ℕ
 parts_met [] = 0
 parts_met (s ∷ ss) = parts_in s + parts_met ss

@@ -1,4 +1,5 @@
--- Which AVI files are supported: every list that is opened is whole, and every index entry names bytes of the essence.
+-- Which AVI files are supported: every list that is opened is whole, and every index entry names bytes of the essence
+-- (this project's own, over RIFF and OpenDML 1.02).
 use Rattle.std.specs.Prelude.{◌≡◌, ℕ, ◌+◌, ◌*◌, ◌<◌, ◌≤◌, ◌==◌, nat_le, nat_lt, List, [], ◌∷◌, ◌++◌, length, map, take, drop, Bool, true, false, ◌&&◌, ◌||◌, not, codes, if◌then◌else◌}
 use Rattle.std.specs.Str.{bytes_eq}
 use Rattle.std.specs.List.{AllByRecursion}
@@ -20,6 +21,7 @@ begins b = nat_le 12 (length b) && (bytes_eq (take 4 b) (codes "RIFF") && bytes_
 abbrev pub infos : Avi → List Stood
 infos a = only (is_type (codes "INFO")) (top a)
 
+-- the movi lists of the first form
 abbrev pub movis : Avi → List Stood
 movis a = only is_movi (top a)
 
@@ -31,6 +33,7 @@ ListEnds x = (list_run x.chunk).stop ≡ ends
 abbrev pub opened : Avi → List Stood
 opened a = hdrls a ++ (strls a ++ infos a)
 
+-- how many chunks these lists have
 abbrev pub count_kids : List Stood → ℕ
 count_kids [] = 0
 count_kids (x ∷ xs) = length (list_run x.chunk).chunks + count_kids xs
@@ -39,9 +42,11 @@ count_kids (x ∷ xs) = length (list_run x.chunk).chunks + count_kids xs
 abbrev pub parts : Avi → ℕ
 parts a = length a.children + count_kids (opened a) + count_kids (others_at a)
 
+-- 65,536 parts, or index chunks
 abbrev pub part_limit : ℕ
 part_limit = 65536
 
+-- 16 MiB
 abbrev pub list_limit : ℕ
 list_limit = 16777216
 
@@ -51,18 +56,23 @@ list_limit = 16777216
 abbrev pub kind : List ℕ → List ℕ
 kind body = slice body 0 4
 
+-- a super index
 abbrev pub is_super_kind : List ℕ → Bool
 is_super_kind body = bytes_eq (kind body) (4 ∷ 0 ∷ 0 ∷ 0 ∷ []) || bytes_eq (kind body) (4 ∷ 0 ∷ 1 ∷ 0 ∷ [])
 
+-- a standard index with one or with two fields
 abbrev pub is_standard_kind : List ℕ → Bool
 is_standard_kind body = bytes_eq (kind body) (2 ∷ 0 ∷ 0 ∷ 1 ∷ []) || bytes_eq (kind body) (3 ∷ 0 ∷ 1 ∷ 1 ∷ [])
 
+-- an index chunk that is known
 abbrev pub is_index_kind : List ℕ → Bool
 is_index_kind body = is_super_kind body || is_standard_kind body
 
+-- the 24 bytes before the entries are there
 abbrev pub has_header : List ℕ → Bool
 has_header body = nat_le 24 (length body)
 
+-- the entries in use are there
 abbrev pub has_entries : List ℕ → Bool
 has_entries body = nat_le (24 + width body * used body) (length body)
 
@@ -92,10 +102,12 @@ pub record SoundPlace (b : List ℕ) (p : ℕ) : Type 0 where
 
 -- ---- index chunks by place
 
+-- an index chunk put among others by place
 abbrev pub put_by_place : Table → List Table → List Table
 put_by_place t [] = t ∷ []
 put_by_place t (u ∷ us) = if nat_lt t.at u.at then t ∷ (u ∷ us) else u ∷ put_by_place t us
 
+-- the index chunks by place
 abbrev pub by_place : List Table → List Table
 by_place [] = []
 by_place (t ∷ ts) = put_by_place t (by_place ts)
@@ -111,6 +123,7 @@ Apart from (t ∷ ts) = (nat_lt t.at (from + 8) ≡ false) × Apart (t.at + leng
 abbrev pub second_lies : List ℕ → Bool
 second_lies r = not (has_second r) || (nat_le (entry_offset r) (entry_second r) && nat_lt (entry_second r) (entry_offset r + entry_length r))
 
+-- an entry's bytes lie inside one movi, and its second place inside the entry
 abbrev pub entry_lies : Avi → ℕ → List ℕ → Bool
 entry_lies a base r = in_one (movi_spans a) (base + entry_offset r) (entry_length r) && second_lies r
 
@@ -119,6 +132,7 @@ pub record SoundEntry (b : List ℕ) (base : ℕ) (r : List ℕ) : Type 0 where
   pub lies : entry_lies (avi_of b) base r ≡ true
   pub clear : misses (indexes b) (base + entry_offset r) (entry_length r) ≡ true
 
+-- the counted entries of a standard index
 abbrev pub SoundEntries : List ℕ → Table → Type 0
 SoundEntries b t = AllByRecursion (λ r. (entry_length r == 0) ≡ false → SoundEntry b (index_base t.body) r) (entries t.body)
 
@@ -128,6 +142,7 @@ SoundEntries b t = AllByRecursion (λ r. (entry_length r == 0) ≡ false → Sou
 abbrev pub stands_at : List ℕ → List Table → List ℕ → ℕ → Bool
 stands_at b ts r p = bytes_eq (slice b p 4) (row_id r) && (is_head ts p || misses ts p 4)
 
+-- by whether the offset is below the place of movi
 abbrev pub based_by : List ℕ → List Table → Span → List ℕ → Bool → Bool
 based_by b ts movi r true = within movi (movi.at + row_offset r) 4 && stands_at b ts r (movi.at + row_offset r)
 based_by b ts movi r false = stands_at b ts r (row_offset r)
@@ -142,12 +157,14 @@ pub record SoundRow (movi : Span) (ts : List Table) (r : List ℕ) : Type 0 wher
   pub lies : within movi (row_offset r) (8 + row_length r) ≡ true
   pub clear : (is_head ts (row_offset r) || misses ts (row_offset r + 8) (row_length r)) ≡ true
 
+-- the entries of idx1, where they count from the start
 abbrev pub SoundRows : Base → Span → List Table → Table → Type 0
 SoundRows from_start movi ts t = AllByRecursion (λ r. (row_length r == 0) ≡ false → SoundRow movi ts r) (old_rows t.body)
 SoundRows from_movi movi ts t = Unit {0}
 
 -- ---- a file
 
+-- what a file needs to be supported
 pub record Supported (b : List ℕ) : Type 0 where
   pub is_avi : begins b ≡ true
   pub forms_end : (forms b).stop ≡ ends

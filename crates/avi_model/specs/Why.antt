@@ -21,6 +21,7 @@ first (t ∷ ts) = if t.0 then Some t.1 else first ts
 
 -- ---- chunks
 
+-- chunks that end where their parent does
 abbrev pub ended : Stop → Bool
 ended ends = true
 ended stop = false
@@ -31,24 +32,30 @@ step_tests met (form_at x) = (nat_lt (length x.chunk.body) 4, Truncated x.at) �
 step_tests met (part_at info x) = (nat_le part_limit met, TooManyParts) ∷ (info && nat_lt list_limit (length x.chunk.body), CarrierBig (four x.chunk.id) (length x.chunk.body)) ∷ []
 step_tests met (end_at at stop) = (not (ended stop), Truncated at) ∷ []
 
+-- the tests of the steps, in order
 abbrev pub steps_tests : ℕ → List Step → List Test
 steps_tests met [] = []
 steps_tests met (s ∷ ss) = step_tests met s ++ steps_tests (met + parts_met (s ∷ [])) ss
 
+-- the first form has hdrl and movi
 abbrev pub list_tests : Avi → List Test
 list_tests a = (length (hdrls a) == 0, NoHdrl) ∷ (length (movis a) == 0, NoMovi) ∷ []
 
 -- ---- index chunks; each is told by the place of its header
 
+-- the header, the kind and the entries of an index chunk
 abbrev pub sound_tests : (List ℕ → Bool) → ℕ → List ℕ → List Test
 sound_tests of_kind at body = (not (has_header body), IndexShort at) ∷ (not (of_kind body), IndexKind at) ∷ (not (has_entries body), IndexShort at) ∷ []
 
+-- a place that a super entry names
 abbrev pub place_tests : List ℕ → ℕ → List Test
 place_tests b p = (not (in_one (movi_spans (avi_of b)) p (8 + size_at b p)), IndexPlace p) ∷ sound_tests is_standard_kind p (named b p).body
 
+-- the place of the header
 abbrev pub head_of : Table → ℕ
 head_of t = t.at - 8
 
+-- a stream's index, and the chunks that it names
 abbrev pub stream_tests : List ℕ → Table → List Test
 stream_tests b t = sound_tests is_index_kind (head_of t) t.body ++ (if is_super t.body then flat_map (place_tests b) (super_places t.body) else [])
 
@@ -59,6 +66,7 @@ overlap_tests from (t ∷ ts) = (nat_lt t.at (from + 8), IndexOverlap (head_of t
 
 -- ---- entries, from 0
 
+-- the entries of a standard index
 abbrev pub entry_tests : List ℕ → ℕ → ℕ → ℕ → List (List ℕ) → List Test
 entry_tests b at base k [] = []
 entry_tests b at base k (r ∷ rs) =
@@ -66,12 +74,15 @@ entry_tests b at base k (r ∷ rs) =
     ∷ ((not (entry_length r == 0) && not (misses (indexes b) (base + entry_offset r) (entry_length r)), IndexOverlap at)
     ∷ entry_tests b at base (suc k) rs)
 
+-- a standard index
 abbrev pub standard_tests : List ℕ → Table → List Test
 standard_tests b t = if is_super t.body then [] else entry_tests b (head_of t) (index_base t.body) 0 (entries t.body)
 
+-- the base of idx1
 abbrev pub base_tests : List ℕ → Table → List Test
 base_tests b t = (not (is_based b (indexes b) (first_movi (avi_of b)) (old_rows t.body)), IndexBase) ∷ []
 
+-- the entries of idx1
 abbrev pub row_tests : Span → List Table → ℕ → ℕ → List (List ℕ) → List Test
 row_tests movi ts at k [] = []
 row_tests movi ts at k (r ∷ rs) =
@@ -86,6 +97,7 @@ old_tests from_start movi ts t = row_tests movi ts (head_of t) 0 (old_rows t.bod
 
 -- ---- a file
 
+-- all tests, in the order of reading
 abbrev pub tests : List ℕ → List Test
 tests b =
     (not (begins b), UnknownKind)
@@ -98,5 +110,6 @@ tests b =
     ++ (flat_map (base_tests b) (olds b)
     ++ flat_map (old_tests (base b) (first_movi (avi_of b)) (indexes b)) (olds b))))))))
 
+-- why a file is refused, if it is
 abbrev pub why : List ℕ → Option Why
 why b = first (tests b)
