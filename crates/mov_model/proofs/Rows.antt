@@ -16,6 +16,10 @@ use Rattle.mov_model.specs.Room.{has_room, patch, patches}
 use Rattle.mov_model.specs.Why.{why}
 use Rattle.mov_model.specs.Pieces.{pieces}
 use Rattle.mov_model.specs.Cuts.{offset_places}
+use Rattle.mov_model.specs.Map.{essence, parts_of, track_tables, user_span}
+use Rattle.part_tree.specs.declared.part.Part.{Part}
+use Rattle.part_tree.specs.declared.part.Role.TheVariants.{Opaque, Padding, Tables, UserData, Essence}
+use Rattle.part_tree.specs.declared.part.Role.{Role}
 
 -- the edit that sets the name
 abbrev pub set : List ℕ → List EditItem
@@ -117,6 +121,26 @@ places_15 = refl
 fields_15 : fields m15 (User (four (169 ∷ codes "nam"))) ≡ record { lang = 5575; raw = codes "Reel" } ∷ []
 unfolding read chunks
 fields_15 = refl
+
+abbrev part : List ℕ → ℕ → ℕ → ℕ → ℕ → Role → Part
+part id at body len next role = record { id = four id; at = at; body = record { at = body; len = len }; next = next; role = role }
+
+-- the parts of the first movie
+parts_15 : parts_of m15 ≡ part (codes "ftyp") 0 8 12 20 Opaque ∷ part (codes "moov") 20 28 128 156 Opaque ∷ part (codes "free") 156 164 16 180 Padding ∷ part (codes "mdat") 180 188 16 204 Essence ∷ part (codes "trak") 28 36 96 132 Opaque ∷ part (codes "mdia") 36 44 88 132 Opaque ∷ part (codes "minf") 44 52 80 132 Opaque ∷ part (codes "stbl") 52 60 72 132 Opaque ∷ part (codes "stsc") 60 68 20 88 Opaque ∷ part (codes "stsz") 88 96 12 108 Opaque ∷ part (codes "stco") 108 116 16 132 Tables ∷ part (codes "udta") 132 140 16 156 UserData ∷ part (169 ∷ codes "nam") 140 148 8 156 Opaque ∷ []
+unfolding read chunks walk
+parts_15 = refl
+
+essence_15 : essence m15 ≡ record { at = 188; len = 16 } ∷ []
+unfolding read chunks walk
+essence_15 = refl
+
+user_15 : user_span m15 ≡ Some (record { at = 140; len = 16 })
+unfolding read chunks
+user_15 = refl
+
+tracks_15 : track_tables m15 ≡ record { narrow = record { at = 116; len = 16 } ∷ []; wide = []; runs = record { at = 68; len = 20 } ∷ []; sizes = record { at = 96; len = 12 } ∷ [] } ∷ []
+unfolding read chunks walk
+tracks_15 = refl
 
 pub fine_m15 : why m15 ≡ None
 unfolding read chunks walk leaves
