@@ -114,7 +114,7 @@ sized_from : (t : Bool) (form : Form) (n : ℕ) (ds : List Chunk) → HasDs64 t 
 sized_from false form n ds h = (h, ap (sized_ds64 form n) h ∙ sized_none form n)
 sized_from true form n ds h = (h.0, h.1, h.2, ap (sized_ds64 form n) h.1 ∙ sized_is form n h.0)
 
-total_len : (t : Bool) (form : Form) (n : ℕ) (ds : List Chunk) → Sized t form n ds → length (spell_all (sized_ds64 form n ds)) ≡ length (spell_all ds)
+pub total_len : (t : Bool) (form : Form) (n : ℕ) (ds : List Chunk) → Sized t form n ds → length (spell_all (sized_ds64 form n ds)) ≡ length (spell_all ds)
 total_len false form n ds h = ap (λ (x : List Chunk). length (spell_all x)) (h.1 ∙ sym h.0)
 total_len true form n ds h =
     let d = h.0 in

@@ -102,7 +102,7 @@ module _ (o : List ℕ) (bytes : IsBytes o) (sup : Supported o) where
   same_size = ap (λ (cs : List Chunk). length (inner (record (wave_of o) { children = cs }))) same_children
 
   -- riffSize is the form's size
-  same_ds64 : sized_ds64 (wave_of o).form (length (inner (wave_of o))) (wave_of o).ds64 ≡ (wave_of o).ds64
+  pub same_ds64 : sized_ds64 (wave_of o).form (length (inner (wave_of o))) (wave_of o).ds64 ≡ (wave_of o).ds64
   same_ds64 = go (is_wide o) refl
     where
       set : (d : Chunk) → (wave_of o).ds64 ≡ d ∷ [] → IsDs64 d → form_size o ≡ le64 (drop 20 o) → with_riff_size (length (inner (wave_of o))) d ≡ d

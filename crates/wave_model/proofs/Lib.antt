@@ -16,3 +16,4 @@ pub mod Items
 pub mod Law
 pub mod Why
 pub mod Spans
+pub mod Room

@@ -51,7 +51,7 @@ from_both low (c ∷ cs) last g h = g
 abbrev before : Wave → List ℕ
 before w = w.id ++ (field_of w.form (length (inner w)) ++ (codes "WAVE" ++ spell_all w.ds64))
 
-abbrev the_pad : Wave → List RawItem → List ℕ
+abbrev pub the_pad : Wave → List RawItem → List ℕ
 the_pad w e = new_pad (length (inner w)) (new_size w e) w.pad w.tail
 
 -- the old file with the spans replaced
@@ -87,7 +87,7 @@ spliced w e f id_len =
 -- ---- the size set
 
 -- the new file, spelled
-new_spelled : (w : Wave) (e : List RawItem) → IsForm w.form → length (inner (new_wave w e)) ≡ new_size w e
+pub new_spelled : (w : Wave) (e : List RawItem) → IsForm w.form → length (inner (new_wave w e)) ≡ new_size w e
     → spell_wave (new_wave w e) ≡ w.id ++ (field_of w.form (new_size w e) ++ (codes "WAVE" ++ (spell_all (new_wave w e).ds64 ++ (spell_all (new_children w e) ++ (w.left ++ (the_pad w e ++ w.tail))))))
 new_spelled w e f len =
     let n = new_wave w e in
@@ -96,14 +96,14 @@ new_spelled w e f len =
     regroup : (i g d c l r : List ℕ) → i ++ (g ++ ((codes "WAVE" ++ (d ++ (c ++ l))) ++ r)) ≡ i ++ (g ++ (codes "WAVE" ++ (d ++ (c ++ (l ++ r)))))
     regroup i g d c l r = simp append_assoc
 
-set_riff : (n : ℕ) (i g x : List ℕ) → length i ≡ 4 → length g ≡ 4 → with_size riff n (i ++ (g ++ x)) ≡ i ++ (to_le_bytes w32 n ++ x)
+pub set_riff : (n : ℕ) (i g x : List ℕ) → length i ≡ 4 → length g ≡ 4 → with_size riff n (i ++ (g ++ x)) ≡ i ++ (to_le_bytes w32 n ++ x)
 set_riff n i g x a b =
     let eight : length (i ++ g) ≡ 8 = omega (arith, a, b, length-append i g) in
     ap (λ (y : List ℕ). y ++ (to_le_bytes w32 n ++ drop 8 (i ++ (g ++ x)))) (take_at i (g ++ x) 4 a)
     ∙ ap (λ (y : List ℕ). i ++ (to_le_bytes w32 n ++ y)) (ap (drop 8) (sym (append_assoc i g x)) ∙ drop_at (i ++ g) x 8 eight)
 
 -- riffSize stands at 20, first in the body of ds64
-set_wide : (n : ℕ) (h b x : List ℕ) → length h ≡ 20 → 8 ≤ length b → with_size wide n (h ++ (b ++ x)) ≡ h ++ ((to_le_bytes w64 n ++ drop 8 b) ++ x)
+pub set_wide : (n : ℕ) (h b x : List ℕ) → length h ≡ 20 → 8 ≤ length b → with_size wide n (h ++ (b ++ x)) ≡ h ++ ((to_le_bytes w64 n ++ drop 8 b) ++ x)
 set_wide n h b x a l =
     let split : b ≡ take 8 b ++ drop 8 b = sym (take-append-drop 8 b) in
     let eight : length (take 8 b) ≡ 8 = omega (arith, l, Rattle.std.proofs.lemmas.List.length-take 8 b) in

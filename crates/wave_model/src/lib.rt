@@ -2,7 +2,7 @@
 //! for `bext`; EBU Tech 3306 for RF64). It knows no device.
 #![tactic(auto)]
 
-ghost use Rattle.std.specs.Prelude.{◌≡◌, ◌≤◌, ◌-◌, ◌^◌, ◌↔◌, ◌⊎◌, ℕ, List, [], None, length};
+ghost use Rattle.std.specs.Prelude.{◌≡◌, ◌≤◌, ◌-◌, ◌^◌, ◌↔◌, ◌⊎◌, ℕ, List, [], None, length, take};
 ghost use Rattle.part_tree.specs.declared.field.EditItem.{EditItem};
 ghost use Rattle.part_tree.specs.declared.field.RuleSet.TheVariants.{Base};
 ghost use Rattle.me_bytes.specs.Bytes.{IsBytes};
@@ -15,6 +15,8 @@ ghost use Rattle.wave_model.specs.New.{new_file, cuts_of, new_size_of, with_size
 ghost use Rattle.wave_model.specs.Edited.{Supported, Edited};
 ghost use Rattle.wave_model.specs.Large.{too_large, FormSmall};
 ghost use Rattle.wave_model.specs.Why.{why};
+ghost use Rattle.wave_model.specs.Room.{Room, patches};
+ghost use Rattle.carrier_model.specs.Room.{patched};
 
 /// For every supported file and every edit that breaks no basic rule and is not too large, the new file is the old one
 /// edited: it is supported; its fields read back as the old ones updated; every other part is kept in its order; the
@@ -45,4 +47,9 @@ pub fn new_file_is_spliced()
 pub fn new_file_is_no_larger()
     ensures { (o : List ℕ) (e : List EditItem) → too_large o e ≡ None
         → (effective (fields o) e ≡ []) ⊎ ((length (new_file o e) ≤ 2 ^ 63 - 1) × FormSmall (wave_of o).form (wave_of o).id (new_size_of o e)) }
+{}
+
+/// Where an edit has room in place, its patches, laid over the old file at the new length, make the new file.
+pub fn patches_make_the_file()
+    ensures { (o : List ℕ) (e : List EditItem) → IsBytes o → Supported o → Room o e → new_file o e ≡ take (length (new_file o e)) (patched (patches o e) o) }
 {}
