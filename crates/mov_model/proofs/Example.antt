@@ -32,4 +32,4 @@ unfolding read chunks is_utf8 chars encode
 keeps_rules = refl
 
 pub edited : Edited m15 (set big) n15
-edited = subst (Edited m15 (set big)) row_15a (edit_law m15 (set big) (are_bytes m15 refl) supported (refl, tt) keeps_rules whole_15a)
+edited = subst (Edited m15 (set big)) row_15a (edit_law m15 (set big) (are_bytes m15 refl) supported keeps_rules whole_15a)

@@ -2,6 +2,8 @@
 use Rattle.std.proofs.Common.{Bool, List, None, Some, [], ap, arith, cond, false, length, map, refl, subst, sym, true, ℕ, ◌++◌, ◌<◌, ◌^◌, ◌∷◌, ◌≡◌, ◌≤◌}
 use Rattle.std.specs.Prelude.{codes}
 use Rattle.std.proofs.lemmas.Bool.{ltb-false}
+use Rattle.std.specs.Prelude.{◌⊎◌, ◌-◌}
+use Rattle.std.proofs.Common.{inl, inr}
 use Rattle.std.specs.List.{AllByRecursion, flat_map}
 use Rattle.part_tree.specs.declared.field.Value.{Value}
 use Rattle.container_model.proofs.Codec.{IsBytes}
@@ -102,3 +104,14 @@ edited_nothing o sup =
 pub whole_law : (o : List ℕ) (e : List (Item Value)) → IsBytes o → Supported o → UserItems e → size_passed (movie_of o) e ≡ None → EditedBy o e (edited_file o e)
 whole_law o [] bytes sup user none = subst (EditedBy o []) (sym (new_nothing o bytes sup)) (edited_nothing o sup)
 whole_law o (i ∷ e) bytes sup user none = edited_law o (i ∷ e) bytes sup user (fits_of (movie_of o) (i ∷ e) none)
+
+-- The new file has a length that can be told.
+pub length_law : (o : List ℕ) (e : List (Item Value)) → size_passed (movie_of o) e ≡ None → (e ≡ []) ⊎ (length (edited_file o e) ≤ 2 ^ 63 - 1)
+unfolding edited_file
+length_law o [] none = inl refl
+length_law o (i ∷ e) none =
+    let m = movie_of o in
+    let all = within (all_sizes m (i ∷ e)) none in
+    let a = within_both (user_sizes m (i ∷ e)) _ all in
+    let t = within_both (table_sizes m (i ∷ e)) _ a.1.1.1 in
+    inr (omega (arith, t.1.0))

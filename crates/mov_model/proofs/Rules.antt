@@ -1,9 +1,9 @@
 -- An edit that keeps the rules of Base sets texts that fit, of fields that a movie has.
-use Rattle.std.proofs.Common.{◌≡◌, ℕ, suc, ◌<◌, ◌^◌, Bool, true, false, cond, ltb, List, [], ◌∷◌, ◌++◌, length, map, None, refl, arith}
+use Rattle.std.proofs.Common.{Some, ◌≡◌, ℕ, suc, ◌<◌, ◌^◌, Bool, true, false, cond, ltb, List, [], ◌∷◌, ◌++◌, length, map, None, refl, arith}
 use Rattle.std.specs.Prelude.{◌||◌, not, filter, nat_le}
 use Rattle.std.specs.List.{AllByRecursion, filter_map, cons_option}
 use Rattle.std.proofs.lemmas.Bool.{ltb-false}
-use Rattle.part_tree.specs.Names.{IsFieldName, field_place}
+use Rattle.part_tree.specs.Names.{field_place, is_user_type}
 use Rattle.part_tree.specs.declared.field.Broken.{Broken}
 use Rattle.part_tree.specs.declared.field.Change.{Change}
 use Rattle.part_tree.specs.declared.field.Change.TheVariants.{Set, Remove}
@@ -17,8 +17,8 @@ use Rattle.part_tree.specs.declared.names.Kind.TheVariants.{Mov}
 use Rattle.field_model.specs.Broken.{Rule, on_item, chooses, failing, findings_from, findings, first_found, first_name, first_of, broken, has_field, set_fails, rules}
 use Rattle.field_model.specs.Fields.{FieldMap}
 use Rattle.field_model.specs.Rules.{too_long}
-use Rattle.field_model.specs.Update.{RawItem, effective, has_effect, raw_item, raw_items, raw_change}
-use Rattle.mov_model.specs.Edited.{AreNamed, user_edit}
+use Rattle.field_model.specs.Update.{RawItem, effective, raw_item, raw_items, raw_change}
+use Rattle.mov_model.specs.Edited.{user_edit}
 use Rattle.mov_model.proofs.Fits.{UserItems}
 
 -- ---- lists of which nothing is found
@@ -106,14 +106,6 @@ IsUser (Whole id) = ⊥
 abbrev pub AreUser : List RawItem → Type 0
 AreUser rs = AllByRecursion (λ (r : RawItem). IsUser r.name) rs
 
-all_filter : {A : Type 0} (P : A → Type 0) (p : A → Bool) (xs : List A) → AllByRecursion P xs → AllByRecursion P (filter p xs)
-all_filter P p [] h = tt
-all_filter P p (x ∷ xs) h = go (p x) (all_filter P p xs h.1)
-  where
-    go : (t : Bool) → AllByRecursion P (filter p xs) → AllByRecursion P (cond t (x ∷ filter p xs) (filter p xs))
-    go true again = (h.0, again)
-    go false again = again
-
 -- what an item gives, before others
 abbrev Gives : List RawItem → Type 0
 Gives rs = AreUser rs × UserItems (user_edit rs)
@@ -125,17 +117,25 @@ short_text text a b h = go (ltb 65535 (length text)) refl h
     go true e h = absurd cc
     go false e h = omega (arith, ltb-false _ _ e)
 
-one_gives : (name : FieldName) (change : Change) (rs : List RawItem) → IsFieldName name → not (has_field Mov name) ≡ false → set_fails too_long name change ≡ false → Gives rs → Gives (cons_option (raw_change name change) rs)
-one_gives (Bext field) change rs n h s g = absurd cc
-one_gives (Info id) change rs n h s g = absurd cc
-one_gives (Whole id) change rs n h s g = absurd cc
-one_gives (User id) Remove rs n h s g = ((tt, g.0), (tt, g.1))
-one_gives (User id) (Set text) rs n h s g = ((tt, g.0), ((n, omega arith, short_text text _ _ s), g.1))
+one_gives : (name : FieldName) (change : Change) (rs : List RawItem) → not (has_field Mov name) ≡ false → set_fails too_long name change ≡ false → Gives rs → Gives (cons_option (raw_change name change) rs)
+one_gives (Bext field) change rs h s g = absurd cc
+one_gives (Info id) change rs h s g = absurd cc
+one_gives (Whole id) change rs h s g = absurd cc
+one_gives (User id) Remove rs h s g = ((tt, g.0), go (is_user_type id.0))
+  where
+    go : (t : Bool) → UserItems (cond t (record { name = id.0; value = None } ∷ []) [] ++ user_edit rs)
+    go true = (tt, g.1)
+    go false = g.1
+one_gives (User id) (Set text) rs h s g = ((tt, g.0), go (is_user_type id.0) refl)
+  where
+    go : (t : Bool) → is_user_type id.0 ≡ t → UserItems (cond t (record { name = id.0; value = Some (record { lang = 5575; raw = text }) } ∷ []) [] ++ user_edit rs)
+    go true n = ((n, omega arith, short_text text _ _ s), g.1)
+    go false n = g.1
 
-all_give : (es : List EditItem) → AreNamed es → AllByRecursion (Kept Mov) es → Gives (filter_map raw_item es)
-all_give [] n k = (tt, tt)
-all_give (i ∷ es) n k = one_gives i.name i.change (filter_map raw_item es) n.0 k.0.field k.0.short (all_give es n.1 k.1)
+all_give : (es : List EditItem) → AllByRecursion (Kept Mov) es → Gives (filter_map raw_item es)
+all_give [] k = (tt, tt)
+all_give (i ∷ es) k = one_gives i.name i.change (filter_map raw_item es) k.0.field k.0.short (all_give es k.1)
 
 -- the items that have an effect are user items, with texts that fit
-pub items_give : (f : FieldMap) (e : List EditItem) → AreNamed e → broken Mov f e Base ≡ None → AreUser (raw_items f e) × UserItems (user_edit (raw_items f e))
-items_give f e n none = all_give (effective f e) (all_filter (λ (i : EditItem). IsFieldName i.name) (has_effect f) e n) (base_kept Mov f e none)
+pub items_give : (f : FieldMap) (e : List EditItem) → broken Mov f e Base ≡ None → AreUser (raw_items f e) × UserItems (user_edit (raw_items f e))
+items_give f e none = all_give (effective f e) (base_kept Mov f e none)

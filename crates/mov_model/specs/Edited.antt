@@ -1,7 +1,7 @@
 -- What the new file is to the old one.
-use Rattle.std.specs.Prelude.{List, [], ◌∷◌, ℕ, ◌≡◌, Option}
-use Rattle.std.specs.List.{AllByRecursion, flat_map}
-use Rattle.part_tree.specs.Names.{IsFieldName}
+use Rattle.std.specs.Prelude.{if◌then◌else◌, List, [], ◌∷◌, ℕ, ◌≡◌, Option}
+use Rattle.std.specs.List.{flat_map}
+use Rattle.part_tree.specs.Names.{IsFieldName, is_user_type}
 use Rattle.part_tree.specs.declared.field.EditItem.{EditItem}
 use Rattle.part_tree.specs.declared.field.FieldName.{FieldName}
 use Rattle.part_tree.specs.declared.field.FieldName.TheVariants.{User}
@@ -21,9 +21,9 @@ abbrev pub fields : List ℕ → FieldMap
 fields b (User id) = values user_items id.0 (first_items (parts (movie_of b)))
 fields b name = []
 
--- what the items of an edit that have an effect do to the user data
+-- what the items of an edit that have an effect do to the user data: each sets or removes one type of user items
 abbrev pub user_item : FieldName → Option Value → List (Item Value)
-user_item (User id) value = record { name = id.0; value = value } ∷ []
+user_item (User id) value = if is_user_type id.0 then record { name = id.0; value = value } ∷ [] else []
 user_item name value = []
 
 -- the items of the user data, in order
@@ -38,14 +38,10 @@ changes o e = user_edit (raw_items (fields o) e)
 abbrev pub new_file : List ℕ → List EditItem → List ℕ
 new_file o e = edited_file o (changes o e)
 
--- each item names a field
-abbrev pub AreNamed : List EditItem → Type 0
-AreNamed e = AllByRecursion (λ (i : EditItem). IsFieldName i.name) e
-
 -- It is supported; its fields are the old ones updated; all else is kept in order; its tables find the same bytes; and where no item has an effect it is the old file.
 pub record Edited (o : List ℕ) (e : List EditItem) (n : List ℕ) : Type 0 where
   pub supported : Supported n
-  pub reads_back : (name : FieldName) → fields n name ≡ update (fields o) e name
+  pub reads_back : (name : FieldName) → IsFieldName name → fields n name ≡ update (fields o) e name
   pub kept_in_order : kept n ≡ placed (kept o) (changes o e)
   pub same_pieces : pieces n ≡ pieces o
   pub no_effect : effective (fields o) e ≡ [] → n ≡ o

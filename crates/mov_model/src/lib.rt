@@ -1,13 +1,13 @@
 //! The laws of an edit of a QuickTime movie.
 #![tactic(auto)]
 
-ghost use Rattle.std.specs.Prelude.{◌≡◌, ℕ, List, ◌++◌, length, take, drop, Some, None};
+ghost use Rattle.std.specs.Prelude.{◌≡◌, ◌≤◌, ◌⊎◌, ◌^◌, ◌-◌, ℕ, List, [], ◌++◌, length, take, drop, Some, None};
 ghost use Rattle.me_bytes.specs.Bytes.{IsBytes};
 ghost use Rattle.container_model.specs.Splice.{Ascend, splice};
 ghost use Rattle.container_model.specs.Items.{Item};
 ghost use Rattle.part_tree.specs.declared.field.Value.{Value};
 ghost use Rattle.mov_model.specs.Movie.{edited_file, movie_of, new_movie, laid_movie, overlaid, spell_movie, edit_cuts, with_size, all_atoms};
-ghost use Rattle.mov_model.specs.Edited.{AreNamed, Edited, changes, fields, new_file};
+ghost use Rattle.mov_model.specs.Edited.{Edited, changes, fields, new_file};
 ghost use Rattle.mov_model.specs.Support.{Supported};
 ghost use Rattle.mov_model.specs.Pieces.{held};
 ghost use Rattle.mov_model.specs.Why.{why};
@@ -19,10 +19,10 @@ ghost use Rattle.mov_model.specs.Cuts.{TablesStay, all_cuts, unit_cuts};
 ghost use Rattle.mov_model.specs.Room.{PatchesFit, Room, patched, patches};
 ghost use Rattle.mov_model.specs.Large.{too_large};
 
-/// For every supported movie and every edit of fields that keeps the rules of Base, and after which nothing is too large,
-/// the new file is the old one edited.
+/// For every supported movie and every edit that keeps the rules of Base, and after which nothing is too large, the new
+/// file is the old one edited.
 pub fn new_is_edited()
-    ensures { (o : List ℕ) (e : List EditItem) → IsBytes o → Supported o → AreNamed e → broken Mov (fields o) e Base ≡ None → too_large o e ≡ None → Edited o e (new_file o e) }
+    ensures { (o : List ℕ) (e : List EditItem) → IsBytes o → Supported o → broken Mov (fields o) e Base ≡ None → too_large o e ≡ None → Edited o e (new_file o e) }
 {}
 
 /// Before its tables are relocated, the new file is the old one with the slots replaced and the size of `moov` set.
@@ -66,4 +66,9 @@ pub fn patches_make_new()
     ensures stay { (o : List ℕ) (e : List EditItem) → IsBytes o → Supported o → Room o e → TablesStay o e }
     ensures fit { (o : List ℕ) (e : List EditItem) → IsBytes o → Supported o → Room o e → PatchesFit (length o) (length (new_file o e)) (patches o e) }
     ensures made { (o : List ℕ) (e : List EditItem) → IsBytes o → Supported o → Room o e → new_file o e ≡ take (length (new_file o e)) (patched (patches o e) o) }
+{}
+
+/// Where something is edited and nothing is too large, the new file has at most 2^63-1 bytes.
+pub fn new_is_no_larger()
+    ensures { (o : List ℕ) (e : List EditItem) → too_large o e ≡ None → (changes o e ≡ []) ⊎ (length (new_file o e) ≤ 2 ^ 63 - 1) }
 {}
