@@ -17,6 +17,7 @@ own_size short = true
 own_size long = true
 own_size to_end = true
 
+-- JUNK of RIFF is padding
 abbrev pub is_padding : Chunk → Bool
 is_padding c = own_size c.form && bytes_eq c.id (codes "JUNK")
 
@@ -36,6 +37,7 @@ made id body = padded (record { form = riff; id = id; body = body; pad = [] })
 abbrev pub remade : Chunk → Chunk
 remade c = made c.id c.body
 
+-- a list of INFO items and a rest
 abbrev pub list_of : List Chunk → List ℕ → Chunk
 list_of items rest = made (codes "LIST") (codes "INFO" ++ (spell_all (map remade items) ++ rest))
 
@@ -47,6 +49,7 @@ one_of xs id = list_any (bytes_eq id) xs
 abbrev pub info_items : Items (List ℕ)
 info_items = record { name_of = λ c. c.id; holds = λ c. if one_of info_ids c.id then c.body ∷ [] else []; make = λ id raw. made id raw }
 
+-- LIST INFO as a carrier: its items are the chunks behind its type
 abbrev pub info : Carrier
 info = record { is = is_type (codes "INFO"); opening = list_run; closing = λ c items rest. list_of items rest; fresh = λ items. list_of items [] }
 
@@ -54,6 +57,7 @@ info = record { is = is_type (codes "INFO"); opening = list_run; closing = λ c 
 abbrev pub SetsInfo : List (Item (List ℕ)) → Type 0
 SetsInfo e = AllByRecursion (λ i. one_of info_ids i.name ≡ true) e
 
+-- items that a size of 32 bits can tell
 abbrev pub ItemsSmall : List Chunk → Type 0
 ItemsSmall items = length (spell_all (map remade items)) < 2 ^ 32
 
@@ -69,6 +73,7 @@ room free slot s =
     if (free % 2 == 0) && (nat_le 8 free && nat_lt free (2 ^ 32)) then drop (s + 8) slot
     else (if (free % 2 == 1) && (nat_le 9 free && nat_lt free (2 ^ 32)) then drop (s + 7) slot else [])
 
+-- a padding, or none
 abbrev pub fill_by : List ℕ → ℕ → Bool → List Chunk
 fill_by slot s true = []
 fill_by slot s false = made (codes "JUNK") (room (length slot - s) slot s) ∷ []

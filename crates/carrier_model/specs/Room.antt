@@ -14,6 +14,7 @@ leaves_padding free = (free % 2 == 0) && (nat_le 8 free && nat_lt free (2 ^ 32))
 abbrev pub fits_slot : Bool → ℕ → ℕ → Bool
 fits_slot ends len s = (s == len) || (leaves_padding (len - s) || ends)
 
+-- every unit fits; only the last slot can end the file
 abbrev pub units_fit : Bool → List Piece → Bool
 units_fit ends [] = true
 units_fit ends (copied c ∷ ps) = units_fit ends ps
@@ -30,6 +31,7 @@ patch at (x ∷ b) = record { at = at; bytes = x ∷ b } ∷ []
 abbrev pub unit_patch : Fill → List Chunk → List ℕ → List Chunk → Bool → List ℕ
 unit_patch fill lead slot now last = unit_bytes lead now ++ take 8 (spell_all (fill last slot (length (unit_bytes lead now))))
 
+-- the patches of all units, where the first piece stands at a place
 abbrev pub unit_patches : Fill → ℕ → List Piece → List Patch
 unit_patches fill at [] = []
 unit_patches fill at (copied c ∷ ps) = unit_patches fill (at + length (spell c)) ps

@@ -212,6 +212,9 @@ abbrev first_bytes : List ℕ → List (List ℕ) → List ℕ
 first_bytes d [] = d
 first_bytes d (x ∷ xs) = x
 
+pub first_one : (x : List ℕ) (xs : List (List ℕ)) (y : List ℕ) → x ∷ xs ≡ y ∷ [] → x ≡ y
+first_one x xs y q = ap (first_bytes x) q
+
 one_body : (x y : List ℕ) → x ∷ [] ≡ y ∷ [] → x ≡ y
 one_body x y q = ap (first_bytes x) q
 

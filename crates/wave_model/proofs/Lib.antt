@@ -17,3 +17,4 @@ pub mod Law
 pub mod Why
 pub mod Spans
 pub mod Room
+pub mod Map

@@ -1,11 +1,13 @@
 -- Worked rows, computed.
-use Rattle.std.proofs.Common.{◌≡◌, ℕ, List, [], ◌∷◌, ◌++◌, ◌+◌, length, map, true, false, Some, None, refl}
+use Rattle.std.proofs.Common.{◌≡◌, ℕ, List, [], ◌∷◌, ◌++◌, ◌+◌, length, take, map, true, false, Some, None, refl}
 use Rattle.std.specs.Prelude.{codes, replicate}
 use Rattle.part_tree.specs.declared.field.BextField.TheVariants.{Description, LoudnessValue, Umid}
 use Rattle.part_tree.specs.declared.field.Change.TheVariants.{Set}
 use Rattle.part_tree.specs.declared.field.EditItem.{EditItem}
 use Rattle.part_tree.specs.declared.field.FieldName.TheVariants.{Bext, Info}
 use Rattle.part_tree.specs.declared.why.Why.TheVariants.{Truncated, ShortDs64, RowMissing}
+use Rattle.part_tree.specs.declared.part.Role.TheVariants.{Opaque, Sizes, Essence}
+use Rattle.part_tree.specs.declared.part.Role.TheVariants as role
 use Rattle.part_tree.specs.Letters.{four}
 use Rattle.field_model.specs.Fields.{plain}
 use Rattle.field_model.specs.Update.{raw_items}
@@ -16,6 +18,8 @@ use Rattle.wave_model.specs.Fields.{fields}
 use Rattle.wave_model.specs.New.{new_file}
 use Rattle.wave_model.specs.Edited.{pieces}
 use Rattle.wave_model.specs.Large.{too_large}
+use Rattle.wave_model.specs.Map.{parts_of_file, sound}
+use Rattle.carrier_model.specs.Room.{patched}
 use Rattle.wave_model.specs.Why.{why}
 use Rattle.wave_model.specs.Room.{patches, has_room}
 
@@ -141,6 +145,22 @@ description_no_room = refl
 two_titles_read : fields two_titles_dated (Info (four (codes "INAM"))) ≡ plain (65 ∷ 0 ∷ []) ∷ plain (66 ∷ 0 ∷ []) ∷ []
 unfolding chunks read
 two_titles_read = refl
+
+rf64_parts : map (λ p. p.at) (parts_of_file rf64_titled) ≡ 12 ∷ 48 ∷ 72 ∷ 84 ∷ 96 ∷ []
+unfolding chunks read
+rf64_parts = refl
+
+rf64_roles : map (λ p. p.role) (parts_of_file rf64_titled) ≡ Sizes ∷ Opaque ∷ Essence ∷ role.Info ∷ Opaque ∷ []
+unfolding chunks read
+rf64_roles = refl
+
+rf64_sound : sound rf64 ≡ record { at = 80; len = 4 }
+unfolding chunks read
+rf64_sound = refl
+
+title_patched : take 72 (patched (patches short_sound set_title) short_sound) ≡ with_title
+unfolding units chunks read
+title_patched = refl
 
 rf64_blocks : pieces rf64 ≡ ((1 ∷ 2 ∷ []) ∷ (3 ∷ 4 ∷ []) ∷ []) ∷ []
 unfolding chunks read

@@ -292,6 +292,7 @@ module _ (b : List ℕ) where
   pub why_supported : why b ≡ None → Supported b
   unfolding why
   why_supported e =
+      let few : length (wave_of b).ds64 ≤ 65536 = omega (arith, few_firsts (is_big (take 4 b)) (form_run b).chunks) in
       let k = or_none (first (kind_tests b)) (or_else (ds64_why (is_big (take 4 b)) b) (or_else (first (form_tests b)) (chunks_why b))) e in
       let d = or_none (ds64_why (is_big (take 4 b)) b) (or_else (first (form_tests b)) (chunks_why b)) k.1 in
       let n = or_none (first (form_tests b)) (chunks_why b) d.1 in
@@ -299,7 +300,7 @@ module _ (b : List ℕ) where
       let words = and_parts _ _ (not-false _ kinds.0) in
       let forms = neither _ _ (first_none (form_tests b) n.0).0 in
       let w = wave_of b in
-      let c = children_fine (12 + length (spell_all w.ds64)) (length w.ds64) w.children (form_run b).stop w.left (omega (arith, few_firsts (is_big (take 4 b)) (form_run b).chunks)) n.1 in
+      let c = children_fine (12 + length (spell_all w.ds64)) (length w.ds64) w.children (form_run b).stop w.left few n.1 in
       record {
         form_id = words.0;
         form_type = same_true (take 4 (drop 8 b)) (codes "WAVE") words.1;

@@ -25,24 +25,30 @@ blocks (suc k) n (x ∷ b) = take n (x ∷ b) ∷ blocks k n (drop n (x ∷ b))
 abbrev pub block_size : List ℕ → ℕ
 block_size f = from_le_bytes w16 (take 2 (drop 12 f))
 
+-- the bodies of `fmt `
 abbrev pub formats : List Chunk → List (List ℕ)
 formats cs = bodies (has_id (codes "fmt ")) cs
 
+-- the bodies of `data`
 abbrev pub sounds : List Chunk → List (List ℕ)
 sounds cs = bodies (has_id (codes "data")) cs
 
+-- the blocks of each sound, by the size that the first `fmt ` tells
 abbrev pub blocks_by : List (List ℕ) → List (List ℕ) → List (List (List ℕ))
 blocks_by [] ds = []
 blocks_by (f ∷ fs) ds = map (λ d. blocks (length d) (block_size f) d) ds
 
+-- the blocks of the sound of some chunks
 abbrev pub pieces_in : List Chunk → List (List (List ℕ))
 pieces_in cs = blocks_by (formats cs) (sounds cs)
 
+-- the blocks of the sound of a file
 abbrev pub pieces : List ℕ → List (List (List ℕ))
 pieces b = pieces_in (wave_of b).children
 
 -- ---- what is kept
 
+-- Everything that an edit keeps, in order: the kind of the form, ds64, the chunks, the rest and the tail.
 pub record Kept : Type 0 where
   pub kind : List ℕ
   pub form : Form
@@ -56,20 +62,25 @@ abbrev pub ds64_node : Form → Chunk → Node
 ds64_node wide c = other c.form c.id (replicate 8 0 ++ drop 8 c.body)
 ds64_node _ c = other c.form c.id c.body
 
+-- what a form keeps
 abbrev pub kept_in : Wave → Kept
 kept_in w = record { kind = w.id; form = w.form; ds64 = map (ds64_node w.form) w.ds64; nodes = nodes w.children; left = w.left; tail = w.tail }
 
+-- what a file keeps
 abbrev pub kept_of : List ℕ → Kept
 kept_of b = kept_in (wave_of b)
 
+-- the same after an edit
 abbrev pub placed_in : List RawItem → Kept → Kept
 placed_in e k = record k { nodes = placed e k.nodes }
 
 -- ---- what is supported
 
+-- a chunk that holds fields
 abbrev pub is_carrier : Chunk → Bool
 is_carrier c = is_info c || is_marked c
 
+-- a list is read to its end, and a carrier has at most 16 MiB
 pub record ChunkFine (c : Chunk) : Type 0 where
   pub list_ends : is_info c ≡ true → (list_run c).stop ≡ ends
   pub carrier_small : is_carrier c ≡ true → length c.body ≤ 2 ^ 24
@@ -82,9 +93,11 @@ IsFormat f = (16 ≤ length f) × (0 < block_size f)
 abbrev pub parts_of : Chunk → List Chunk
 parts_of c = if is_info c then c ∷ (list_run c).chunks else c ∷ []
 
+-- the parts of a form: its chunks, and the items of its lists
 abbrev pub parts : Wave → ℕ
 parts w = length w.ds64 + length (flat_map parts_of w.children)
 
+-- chunks with one format, one sound and at most one `bext`, which is long enough
 pub record ChildrenFine (cs : List Chunk) : Type 0 where
   pub each : AllByRecursion ChunkFine cs
   pub one_format : length (formats cs) ≡ 1
@@ -101,6 +114,7 @@ pub record Ds64Fine (b : List ℕ) : Type 0 where
   pub holds_rows : 28 + 12 * le32 (drop 44 b) ≤ le32 (drop 16 b)
   pub inside : 20 + le32 (drop 16 b) ≤ length b
 
+-- the identifiers of forms that are read
 abbrev pub is_kind : List ℕ → Bool
 is_kind id = one_of (codes "RIFF" ∷ []) id || is_big id
 
@@ -117,6 +131,7 @@ pub record Supported (b : List ℕ) : Type 0 where
 
 -- ---- the six clauses
 
+-- the body of a JUNK that comes first
 abbrev pub junk_first : List Chunk → List (List ℕ)
 junk_first [] = []
 junk_first (c ∷ cs) = if is_padding c then c.body ∷ [] else []
@@ -125,6 +140,7 @@ junk_first (c ∷ cs) = if is_padding c then c.body ∷ [] else []
 abbrev pub first_junk : Wave → List (List ℕ)
 first_junk w = junk_first (w.ds64 ++ w.children)
 
+-- what the new file is to the old one
 pub record Edited (o : List ℕ) (e : List EditItem) (n : List ℕ) : Type 0 where
   pub supported : Supported n
   pub reads_back : (name : FieldName) → IsFieldName name → fields n name ≡ update (fields o) e name

@@ -15,6 +15,7 @@ use Rattle.wave_model.specs.Wave.{wave_of}
 
 -- ---- the carriers of fields
 
+-- a chunk of an identifier
 abbrev pub has_id : List ℕ → Chunk → Bool
 has_id id c = bytes_eq id c.id
 
@@ -26,6 +27,7 @@ is_bext c = own_size c.form && has_id (codes "bext") c
 abbrev pub is_whole : List ℕ → Chunk → Bool
 is_whole id c = own_size c.form && (one_of whole_ids id && has_id id c)
 
+-- a list of INFO items
 abbrev pub is_info : Chunk → Bool
 is_info c = is_type (codes "INFO") c
 
@@ -35,6 +37,7 @@ is_info c = is_type (codes "INFO") c
 abbrev pub body_in : (Chunk → Bool) → Chunk → List (List ℕ)
 body_in p c = if p c then c.body ∷ [] else []
 
+-- the bodies of all chunks that meet a test
 abbrev pub bodies : (Chunk → Bool) → List Chunk → List (List ℕ)
 bodies p cs = flat_map (body_in p) cs
 
@@ -45,9 +48,11 @@ raws_of cs (Info id) = list_values info info_items id.0 cs
 raws_of cs (Whole id) = bodies (is_whole id.0) cs
 raws_of cs (User id) = []
 
+-- the fields of some chunks
 abbrev pub fields_of : List Chunk → FieldMap
 fields_of cs name = map plain (raws_of cs name)
 
+-- the fields of a file
 abbrev pub fields : List ℕ → FieldMap
 fields b = fields_of (wave_of b).children
 
@@ -57,11 +62,14 @@ fields b = fields_of (wave_of b).children
 abbrev pub is_marked : Chunk → Bool
 is_marked c = own_size c.form && one_of (codes "bext" ∷ whole_ids) c.id
 
+-- the node of a chunk that is no list
 abbrev pub plain_nodes : Chunk → List Node
 plain_nodes c = if is_padding c then [] else (if is_marked c then sign c.id ∷ [] else other c.form c.id c.body ∷ [])
 
+-- the node of a chunk
 abbrev pub nodes_of : Chunk → List Node
 nodes_of c = nodes_in info info_items plain_nodes c
 
+-- the nodes of all chunks
 abbrev pub nodes : List Chunk → List Node
 nodes cs = flat_map nodes_of cs

@@ -35,5 +35,6 @@ abbrev pub large_by : List EditItem → Wave → List RawItem → Option Size
 large_by [] w e = None
 large_by (i ∷ is) w e = first_above (all_sizes w e)
 
+-- the first size of the new file that passes its limit
 abbrev pub too_large : List ℕ → List EditItem → Option Size
 too_large o e = large_by (effective (fields o) e) (wave_of o) (raw_items (fields o) e)

@@ -6,3 +6,4 @@ pub mod Edited
 pub mod Large
 pub mod Why
 pub mod Room
+pub mod Map

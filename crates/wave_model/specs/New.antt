@@ -12,6 +12,7 @@ use Rattle.wave_model.specs.Wave.{Wave, wave_of, inner, spell_wave, cells_of}
 use Rattle.wave_model.specs.Fields.{fields}
 use Rattle.wave_model.specs.Carry.{steps, carried}
 
+-- no bytes
 abbrev pub is_nil : List ℕ → Bool
 is_nil [] = true
 is_nil (x ∷ xs) = false
@@ -20,6 +21,7 @@ is_nil (x ∷ xs) = false
 abbrev pub ends_file : Wave → Bool
 ends_file w = is_nil w.left && (is_nil w.pad && is_nil w.tail)
 
+-- the padding of units in a file
 abbrev pub fill_of : Wave → Fill
 fill_of w = riff_fill (ends_file w)
 
@@ -27,9 +29,11 @@ fill_of w = riff_fill (ends_file w)
 abbrev pub pieces_of : Wave → List RawItem → List Piece
 pieces_of w e = units shut (carried (steps e) (cells_of w))
 
+-- the chunks of the new form
 abbrev pub new_children : Wave → List RawItem → List Chunk
 new_children w e = lay (fill_of w) (pieces_of w e)
 
+-- the form with these chunks
 abbrev pub with_children : Wave → List RawItem → Wave
 with_children w e = record w { children = new_children w e }
 
@@ -45,10 +49,12 @@ new_pad old new pad tail = if old == new then pad else (if (new % 2 == 1) && not
 abbrev pub with_riff_size : ℕ → Chunk → Chunk
 with_riff_size n c = record c { body = to_le_bytes w64 n ++ drop 8 c.body }
 
+-- ds64 with the new size, where the size stands there
 abbrev pub sized_ds64 : Form → ℕ → List Chunk → List Chunk
 sized_ds64 wide n cs = map (with_riff_size n) cs
 sized_ds64 _ n cs = cs
 
+-- the form after an edit in raw bytes
 abbrev pub new_wave : Wave → List RawItem → Wave
 new_wave w e =
     record w {
@@ -57,6 +63,7 @@ new_wave w e =
       pad = new_pad (length (inner w)) (new_size w e) w.pad w.tail;
     }
 
+-- the new file
 unfoldable pub new_file : List ℕ → List EditItem → List ℕ
 new_file o e = spell_wave (new_wave (wave_of o) (raw_items (fields o) e))
 
@@ -70,14 +77,17 @@ children_at w = 12 + length (spell_all w.ds64)
 abbrev pub pad_cut : ℕ → List ℕ → List ℕ → List Cut
 pad_cut at old new = if bytes_eq old new then [] else record { at = at; len = length old; bytes = new } ∷ []
 
+-- the spans that an edit replaces: the slots of its units, and the pad of the form
 abbrev pub edit_cuts : Wave → List RawItem → List Cut
 edit_cuts w e =
     cuts (fill_of w) (children_at w) (pieces_of w e)
     ++ pad_cut (8 + length (inner w)) w.pad (new_pad (length (inner w)) (new_size w e) w.pad w.tail)
 
+-- the same of a file
 abbrev pub cuts_of : List ℕ → List EditItem → List Cut
 cuts_of o e = edit_cuts (wave_of o) (raw_items (fields o) e)
 
+-- the size of the new file's form
 abbrev pub new_size_of : List ℕ → List EditItem → ℕ
 new_size_of o e = new_size (wave_of o) (raw_items (fields o) e)
 

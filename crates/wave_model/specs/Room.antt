@@ -19,9 +19,11 @@ size_patch _ old new = if old == new then [] else patch 4 (to_le_bytes w32 new)
 abbrev pub patches_in : Wave → List RawItem → List Patch
 patches_in w e = size_patch w.form (length (inner w)) (new_size w e) ++ unit_patches (fill_of w) (children_at w) (pieces_of w e)
 
+-- the patches of an edit
 abbrev pub patches : List ℕ → List EditItem → List Patch
 patches o e = patches_in (wave_of o) (raw_items (fields o) e)
 
+-- whether the edit fits in place
 abbrev pub has_room : Wave → List RawItem → Bool
 has_room w e = units_fit (ends_file w) (pieces_of w e) && nat_le (total (patches_in w e)) (2 ^ 24)
 

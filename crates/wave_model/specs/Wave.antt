@@ -9,9 +9,11 @@ use Rattle.container_model.specs.Sizes.{Row, Sizes, plain, table, riff_front}
 use Rattle.container_model.specs.Units.{Cell, kept, gap}
 use Rattle.carrier_model.specs.Info.{one_of, is_padding}
 
+-- the number that the first four bytes spell, the low byte first
 abbrev pub le32 : List ℕ → ℕ
 le32 b = from_le_bytes w32 (take 4 b)
 
+-- the number that the first eight bytes spell
 abbrev pub le64 : List ℕ → ℕ
 le64 b = from_le_bytes w64 (take 8 b)
 
@@ -19,6 +21,7 @@ le64 b = from_le_bytes w64 (take 8 b)
 abbrev pub big_forms : List (List ℕ)
 big_forms = codes "RF64" ∷ []
 
+-- whether a form is one of these
 abbrev pub is_big : List ℕ → Bool
 is_big id = one_of big_forms id
 
@@ -28,6 +31,7 @@ is_big id = one_of big_forms id
 abbrev pub is_wide : List ℕ → Bool
 is_wide b = is_big (take 4 b) && (le32 (drop 4 b) == 4294967295)
 
+-- how a form's header gives its size
 abbrev pub form_kind : Bool → Form
 form_kind true = wide
 form_kind false = riff
@@ -36,9 +40,11 @@ form_kind false = riff
 abbrev pub form_size : List ℕ → ℕ
 form_size b = if is_wide b then le64 (drop 20 b) else le32 (drop 4 b)
 
+-- the form behind its header
 abbrev pub form_body : List ℕ → List ℕ
 form_body b = take (form_size b) (drop 8 b)
 
+-- what is behind it
 abbrev pub behind_form : List ℕ → List ℕ
 behind_form b = drop (form_size b) (drop 8 b)
 
@@ -58,11 +64,13 @@ rows (suc n) (x ∷ b) = record { id = take 4 (x ∷ b); size = le64 (drop 4 (x 
 abbrev pub table_of : List ℕ → Sizes
 table_of body = table (le64 (drop 8 body)) (rows (le32 (drop 24 body)) (drop 28 body))
 
+-- where the sizes of a file's chunks stand
 abbrev pub sizes_of : List ℕ → Sizes
 sizes_of b = if is_big (take 4 b) then table_of (drop 20 b) else plain
 
 -- ---- the chunks of the form
 
+-- the chunks that are read in the form
 abbrev pub form_run : List ℕ → Run
 form_run b = chunks riff_front (sizes_of b) (drop 4 (form_body b))
 
@@ -71,10 +79,12 @@ abbrev pub firsts : Bool → List Chunk → List Chunk
 firsts true (c ∷ cs) = c ∷ []
 firsts _ _ = []
 
+-- the chunks behind it
 abbrev pub others : Bool → List Chunk → List Chunk
 others true (c ∷ cs) = cs
 others _ cs = cs
 
+-- A file: its form, the form's rest and pad, and the tail behind the form.
 pub record Wave : Type 0 where
   pub form : Form
   pub id : List ℕ
@@ -84,6 +94,7 @@ pub record Wave : Type 0 where
   pub pad : List ℕ
   pub tail : List ℕ
 
+-- what a file is read as
 abbrev pub wave_of : List ℕ → Wave
 wave_of b =
     record {
@@ -96,12 +107,15 @@ wave_of b =
       tail = drop (pad_len riff (form_size b)) (behind_form b);
     }
 
+-- the body of the form
 abbrev pub inner : Wave → List ℕ
 inner w = codes "WAVE" ++ (spell_all w.ds64 ++ (spell_all w.children ++ w.left))
 
+-- the form as a chunk
 abbrev pub form_of : Wave → Chunk
 form_of w = record { form = w.form; id = w.id; body = inner w; pad = w.pad }
 
+-- a file as bytes
 abbrev pub spell_wave : Wave → List ℕ
 spell_wave w = spell (form_of w) ++ w.tail
 
@@ -112,13 +126,16 @@ abbrev pub cell_by : Chunk → Bool → Cell
 cell_by c true = gap c
 cell_by c false = kept c
 
+-- a chunk, as something that is kept or as padding
 abbrev pub cell_of : Chunk → Cell
 cell_of c = cell_by c (is_padding c)
 
+-- all chunks, by whether ds64 stands before them
 abbrev pub cells_behind : List Chunk → List Chunk → List Cell
 cells_behind [] [] = []
 cells_behind [] (c ∷ cs) = kept c ∷ map cell_of cs
 cells_behind (d ∷ ds) cs = map cell_of cs
 
+-- the cells of a form
 abbrev pub cells_of : Wave → List Cell
 cells_of w = cells_behind w.ds64 w.children

@@ -15,12 +15,14 @@ abbrev pub first : List (Bool × Why) → Option Why
 first [] = None
 first (t ∷ ts) = if t.0 then Some t.1 else first ts
 
+-- the first of two refusals
 abbrev pub or_else : Option Why → Option Why → Option Why
 or_else None b = b
 or_else (Some w) b = Some w
 
 -- ---- the form
 
+-- the kind, by the first bytes
 abbrev pub kind_tests : List ℕ → List (Bool × Why)
 kind_tests b = (not (is_kind (take 4 b) && bytes_eq (take 4 (drop 8 b)) (codes "WAVE")), UnknownKind) ∷ []
 
@@ -32,10 +34,12 @@ ds64_tests b =
     ∷ ((nat_lt (2 ^ 24) len, CarrierBig (four (codes "ds64")) len)
     ∷ ((nat_lt len 28 || (nat_lt (length b) (20 + len) || nat_lt len (28 + 12 * le32 (drop 44 b))), ShortDs64 len) ∷ []))
 
+-- the refusal of ds64
 abbrev pub ds64_why : Bool → List ℕ → Option Why
 ds64_why true b = first (ds64_tests b)
 ds64_why false b = None
 
+-- the form lies in the file
 abbrev pub form_tests : List ℕ → List (Bool × Why)
 form_tests b = (nat_lt (form_size b) 4 || nat_lt (length b) (8 + form_size b), Truncated 0) ∷ []
 
@@ -48,12 +52,15 @@ pub record Seen : Type 0 where
   pub sounds : ℕ
   pub bexts : ℕ
 
+-- `fmt `
 abbrev pub is_fmt : Chunk → Bool
 is_fmt c = has_id (codes "fmt ") c
 
+-- `data`
 abbrev pub is_data : Chunk → Bool
 is_data c = has_id (codes "data") c
 
+-- the counts with a further chunk
 abbrev pub see : Seen → Chunk → Seen
 see s c = record {
   parts = s.parts + length (parts_of c);
@@ -62,6 +69,7 @@ see s c = record {
   bexts = s.bexts + length (body_in is_bext c);
 }
 
+-- whether chunks were read to the end
 abbrev pub ended : Stop → Bool
 ended ends = true
 ended bad_header = false
@@ -82,10 +90,12 @@ chunk_tests at s c =
     ∷ ((is_info c && not (ended (list_run c).stop), Truncated (at + 12 + length (spell_all (list_run c).chunks)))
     ∷ ((nat_lt 65536 (s.parts + length (parts_of c)), TooManyParts) ∷ [])))))))))
 
+-- the first refusal among chunks from a place on, and at last of what ends them
 abbrev pub children_why : ℕ → Seen → List Chunk → (ℕ → Seen → Option Why) → Option Why
 children_why at s [] last = last at s
 children_why at s (c ∷ cs) last = or_else (first (chunk_tests at s c)) (children_why (at + length (spell c)) (see s c) cs last)
 
+-- whether a size has no row
 abbrev pub is_bad : Stop → Bool
 is_bad ends = false
 is_bad bad_header = true
@@ -98,12 +108,15 @@ last_tests stop left at s =
     (is_bad stop, RowMissing (four (take 4 left)))
     ∷ ((not (ended stop), Truncated at) ∷ ((nat_lt s.formats 1, NoFmt) ∷ ((nat_lt s.sounds 1, NoData) ∷ [])))
 
+-- the refusal of what ends the chunks
 abbrev pub last_why : Stop → List ℕ → ℕ → Seen → Option Why
 last_why stop left at s = first (last_tests stop left at s)
 
+-- the counts before the first chunk behind ds64
 abbrev pub nothing_seen : ℕ → Seen
 nothing_seen n = record { parts = n; formats = 0; sounds = 0; bexts = 0 }
 
+-- the refusal of the chunks of the form
 abbrev pub chunks_why : List ℕ → Option Why
 chunks_why b =
     let w = wave_of b in

@@ -2,7 +2,7 @@
 //! for `bext`; EBU Tech 3306 for RF64). It knows no device.
 #![tactic(auto)]
 
-ghost use Rattle.std.specs.Prelude.{◌≡◌, ◌≤◌, ◌-◌, ◌^◌, ◌↔◌, ◌⊎◌, ℕ, List, [], None, length, take};
+ghost use Rattle.std.specs.Prelude.{◌≡◌, ◌≤◌, ◌-◌, ◌^◌, ◌↔◌, ◌⊎◌, ℕ, List, [], ◌∷◌, None, length, take, drop};
 ghost use Rattle.part_tree.specs.declared.field.EditItem.{EditItem};
 ghost use Rattle.part_tree.specs.declared.field.RuleSet.TheVariants.{Base};
 ghost use Rattle.me_bytes.specs.Bytes.{IsBytes};
@@ -12,7 +12,8 @@ ghost use Rattle.container_model.specs.Splice.{splice, Ascend};
 ghost use Rattle.wave_model.specs.Wave.{kind_of, wave_of};
 ghost use Rattle.wave_model.specs.Fields.{fields};
 ghost use Rattle.wave_model.specs.New.{new_file, cuts_of, new_size_of, with_size};
-ghost use Rattle.wave_model.specs.Edited.{Supported, Edited};
+ghost use Rattle.wave_model.specs.Edited.{Supported, Edited, parts, sounds};
+ghost use Rattle.wave_model.specs.Map.{parts_of_file, sound};
 ghost use Rattle.wave_model.specs.Large.{too_large, FormSmall};
 ghost use Rattle.wave_model.specs.Why.{why};
 ghost use Rattle.wave_model.specs.Room.{Room, patches};
@@ -52,4 +53,10 @@ pub fn new_file_is_no_larger()
 /// Where an edit has room in place, its patches, laid over the old file at the new length, make the new file.
 pub fn patches_make_the_file()
     ensures { (o : List ℕ) (e : List EditItem) → IsBytes o → Supported o → Room o e → new_file o e ≡ take (length (new_file o e)) (patched (patches o e) o) }
+{}
+
+/// A reader tells as many parts of a supported file as are counted, and its sound is the body of `data`.
+pub fn what_is_told()
+    ensures parts { (o : List ℕ) → IsBytes o → Supported o → length (parts_of_file o) ≡ parts (wave_of o) }
+    ensures sound { (o : List ℕ) → IsBytes o → Supported o → sounds (wave_of o).children ≡ take (sound o).len (drop (sound o).at o) ∷ [] }
 {}

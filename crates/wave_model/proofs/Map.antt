@@ -1,0 +1,116 @@
+-- What a reader tells of a supported file lies in its bytes.
+use Rattle.std.proofs.Common.{◌≡◌, ℕ, ◌+◌, Bool, true, false, cond, List, [], ◌∷◌, ◌++◌, length, take, drop, refl, sym, ap, ◌∙◌, append_assoc, arith, inl, inr}
+use Rattle.std.specs.Prelude.{codes}
+use Rattle.std.specs.Int.{w32, to_le_bytes}
+use Rattle.std.specs.List.{flat_map, AllByRecursion}
+use Rattle.std.proofs.lemmas.List.{length-append, take_at, drop_at}
+use Rattle.part_tree.specs.declared.part.Role.{Role}
+use Rattle.container_model.specs.Chunk.{Form, Chunk, header_bytes, spell, spell_all}
+use Rattle.container_model.proofs.Codec.{IsBytes}
+use Rattle.carrier_model.specs.Info.{list_run}
+use Rattle.wave_model.specs.Wave.{Wave, wave_of, inner, spell_wave}
+use Rattle.wave_model.specs.Fields.{has_id, is_info}
+use Rattle.wave_model.specs.New.{children_at}
+use Rattle.wave_model.specs.Edited.{parts_of, parts, sounds, Supported}
+use Rattle.wave_model.specs.Map.{body_span, role_of, first_role, part, item_parts, chunk_parts, later_parts, parts_behind, ds64_parts, parts_of_file, sound_from, sound}
+use Rattle.wave_model.proofs.Read.{most, OfRiff, IsRead}
+use Rattle.wave_model.proofs.Again.{field_of, spelled, field_len}
+use Rattle.wave_model.proofs.Form.{old_form, spelled_is, old_fine, has_ds64}
+use Rattle.wave_model.proofs.Edited.{kind_len}
+use Rattle.wave_model.proofs.Ds64.{HasDs64}
+
+-- ---- as many parts as are counted
+
+items_len : (at : ℕ) (cs : List Chunk) → length (item_parts at cs) ≡ length cs
+items_len at [] = refl
+items_len at (c ∷ cs) = ap Rattle.std.specs.Prelude.suc (items_len (at + length (spell c)) cs)
+
+chunk_len : (role : Role) (at : ℕ) (c : Chunk) → length (chunk_parts role at c) ≡ length (parts_of c)
+chunk_len role at c = go (is_info c)
+  where
+    go : (t : Bool) → length (part role at c ∷ cond t (item_parts (at + 12) (list_run c).chunks) []) ≡ length (cond t (c ∷ (list_run c).chunks) (c ∷ []))
+    go true = ap Rattle.std.specs.Prelude.suc (items_len (at + 12) (list_run c).chunks)
+    go false = refl
+
+later_len : (at : ℕ) (cs : List Chunk) → length (later_parts at cs) ≡ length (flat_map parts_of cs)
+later_len at [] = refl
+later_len at (c ∷ cs) =
+    omega (arith, chunk_len (role_of c) at c, later_len (at + length (spell c)) cs, length-append (chunk_parts (role_of c) at c) (later_parts (at + length (spell c)) cs), length-append (parts_of c) (flat_map parts_of cs))
+
+behind_len : (ds : List Chunk) (at : ℕ) (cs : List Chunk) → length (parts_behind ds at cs) ≡ length (flat_map parts_of cs)
+behind_len [] at [] = refl
+behind_len [] at (c ∷ cs) =
+    omega (arith, chunk_len (first_role c) at c, later_len (at + length (spell c)) cs, length-append (chunk_parts (first_role c) at c) (later_parts (at + length (spell c)) cs), length-append (parts_of c) (flat_map parts_of cs))
+behind_len (d ∷ ds) at cs = later_len at cs
+
+pub parts_counted : (o : List ℕ) → IsBytes o → Supported o → length (parts_of_file o) ≡ parts (wave_of o)
+parts_counted o bytes sup =
+    let w = wave_of o in
+    omega (arith, behind_len w.ds64 (children_at w) w.children, one (Rattle.wave_model.specs.Wave.is_big (take 4 o)) (has_ds64 o bytes sup), length-append (ds64_parts w.ds64) (parts_behind w.ds64 (children_at w) w.children))
+  where
+    one : (t : Bool) → HasDs64 t (wave_of o).ds64 → length (ds64_parts (wave_of o).ds64) ≡ length (wave_of o).ds64
+    one false h = ap (λ (ds : List Chunk). length (ds64_parts ds)) h ∙ sym (ap length h)
+    one true h = ap (λ (ds : List Chunk). length (ds64_parts ds)) h.1 ∙ sym (ap length h.1)
+
+-- ---- the sound lies where it is told
+
+head_len : (n : ℕ) (c : Chunk) → IsRead n c → length (header_bytes c.form c.id (length c.body)) ≡ 8
+head_len n c r = go r.form_is
+  where
+    go : OfRiff c.form → length (header_bytes c.form c.id (length c.body)) ≡ 8
+    go (inl e) = ap (λ (f : Form). length (header_bytes f c.id (length c.body))) e ∙ omega (arith, r.id_len, length-append c.id (to_le_bytes w32 (length c.body)))
+    go (inr e) = ap (λ (f : Form). length (header_bytes f c.id (length c.body))) e ∙ omega (arith, r.id_len, length-append c.id (255 ∷ 255 ∷ 255 ∷ 255 ∷ []))
+
+-- a body in bytes before which so many others stand
+body_there : (n at : ℕ) (x : List ℕ) (c : Chunk) (y : List ℕ) → length x ≡ at → IsRead n c → take (length c.body) (drop (at + 8) (x ++ (spell c ++ y))) ≡ c.body
+body_there n at x c y e r =
+    let h = header_bytes c.form c.id (length c.body) in
+    let split : x ++ (spell c ++ y) ≡ (x ++ h) ++ (c.body ++ (c.pad ++ y)) = simp append_assoc in
+    let front : length (x ++ h) ≡ at + 8 = omega (arith, e, head_len n c r, length-append x h) in
+    ap (λ (z : List ℕ). take (length c.body) (drop (at + 8) z)) split ∙ ap (take (length c.body)) (drop_at (x ++ h) (c.body ++ (c.pad ++ y)) (at + 8) front) ∙ take_at c.body (c.pad ++ y) (length c.body) refl
+
+sound_there : (n at : ℕ) (x : List ℕ) (cs : List Chunk) (y : List ℕ) → length x ≡ at → AllByRecursion (IsRead n) cs → (d : List ℕ) → sounds cs ≡ d ∷ []
+    → take (sound_from at cs).len (drop (sound_from at cs).at (x ++ (spell_all cs ++ y))) ≡ d
+sound_there n at x [] y e r d s = absurd cc
+sound_there n at x (c ∷ cs) y e r d s = go (has_id (codes "data") c) refl (sound_there n (at + length (spell c)) (x ++ spell c) cs y (omega (arith, e, length-append x (spell c))) r.1 d)
+  where
+    go : (t : Bool) → has_id (codes "data") c ≡ t
+        → (sounds cs ≡ d ∷ [] → take (sound_from (at + length (spell c)) cs).len (drop (sound_from (at + length (spell c)) cs).at ((x ++ spell c) ++ (spell_all cs ++ y))) ≡ d)
+        → take (cond t (body_span at c) (sound_from (at + length (spell c)) cs)).len (drop (cond t (body_span at c) (sound_from (at + length (spell c)) cs)).at (x ++ ((spell c ++ spell_all cs) ++ y))) ≡ d
+    go true i again =
+        let here : c.body ∷ sounds cs ≡ d ∷ [] = sym (ap (λ (t : Bool). cond t (c.body ∷ []) [] ++ sounds cs) i) ∙ s in
+        ap (λ (z : List ℕ). take (length c.body) (drop (at + 8) (x ++ z))) (append_assoc (spell c) (spell_all cs) y) ∙ body_there n at x c (spell_all cs ++ y) e r.0 ∙ Rattle.wave_model.proofs.Edited.first_one c.body (sounds cs) d here
+    go false i again =
+        let rest : sounds cs ≡ d ∷ [] = sym (ap (λ (t : Bool). cond t (c.body ∷ []) [] ++ sounds cs) i) ∙ s in
+        ap (λ (z : List ℕ). take (sound_from (at + length (spell c)) cs).len (drop (sound_from (at + length (spell c)) cs).at z)) (regroup x (spell c) (spell_all cs) y) ∙ again rest
+      where
+        regroup : (a b c d : List ℕ) → a ++ ((b ++ c) ++ d) ≡ (a ++ b) ++ (c ++ d)
+        regroup a b c d = simp append_assoc
+
+-- The sound that is told is the body of `data`.
+pub sound_is : (o : List ℕ) → IsBytes o → Supported o → sounds (wave_of o).children ≡ take (sound o).len (drop (sound o).at o) ∷ []
+sound_is o bytes sup = go (sounds (wave_of o).children) refl sup.children.one_sound
+  where
+    front : List ℕ
+    front = (wave_of o).id ++ (field_of (wave_of o).form (length (inner (wave_of o))) ++ (codes "WAVE" ++ spell_all (wave_of o).ds64))
+
+    rest : List ℕ
+    rest = (wave_of o).left ++ ((wave_of o).pad ++ (wave_of o).tail)
+
+    regroup : (i g d c l r : List ℕ) → i ++ (g ++ ((codes "WAVE" ++ (d ++ (c ++ l))) ++ r)) ≡ (i ++ (g ++ (codes "WAVE" ++ d))) ++ (c ++ (l ++ r))
+    regroup i g d c l r = simp append_assoc
+
+    behind : (a : List Chunk) → AllByRecursion (IsRead (most (Rattle.wave_model.specs.Wave.sizes_of o))) (a ++ (wave_of o).children) → AllByRecursion (IsRead (most (Rattle.wave_model.specs.Wave.sizes_of o))) (wave_of o).children
+    behind [] h = h
+    behind (c ∷ a) h = behind a h.1
+
+    go : (ds : List (List ℕ)) → sounds (wave_of o).children ≡ ds → length (sounds (wave_of o).children) ≡ 1 → sounds (wave_of o).children ≡ take (sound o).len (drop (sound o).at o) ∷ []
+    go [] e l = absurd (omega (arith, ap length e))
+    go (d ∷ []) e l =
+        let v = wave_of o in
+        let k = length (inner v) in
+        let whole : o ≡ front ++ (spell_all v.children ++ rest) = spelled_is o bytes sup ∙ spelled v (old_form o bytes sup) ∙ regroup v.id (field_of v.form k) (spell_all v.ds64) (spell_all v.children) v.left (v.pad ++ v.tail) in
+        let len : length front ≡ children_at v = omega (arith, kind_len (take 4 o) sup.form_id, field_len v.form k, length-append v.id (field_of v.form k ++ (codes "WAVE" ++ spell_all v.ds64)), length-append (field_of v.form k) (codes "WAVE" ++ spell_all v.ds64), length-append (codes "WAVE") (spell_all v.ds64)) in
+        let there = sound_there (most (Rattle.wave_model.specs.Wave.sizes_of o)) (children_at v) front v.children rest len (behind v.ds64 (old_fine o bytes sup)) d e in
+        e ∙ ap (λ (z : List ℕ). z ∷ []) (sym (ap (λ (z : List ℕ). take (sound o).len (drop (sound o).at z)) whole ∙ there))
+    go (d ∷ (c ∷ ds)) e l = absurd (omega (arith, ap length e))
