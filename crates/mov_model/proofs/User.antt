@@ -1,12 +1,12 @@
 -- User items and user data are read as they are made.
-use Rattle.std.proofs.Common.{Bool, List, None, Option, Some, [], ap, arith, cond, drop, false, inl, length, ltb, map, refl, suc, sym, take, true, zero, ℕ, ◌++◌, ◌+◌, ◌<◌, ◌^◌, ◌∙◌, ◌∷◌, ◌≡◌}
+use Rattle.std.proofs.Common.{drop_at, ◌≤◌, take_at, Bool, List, None, Option, Some, [], ap, arith, cond, drop, false, inl, length, ltb, map, refl, suc, sym, take, true, zero, ℕ, ◌++◌, ◌+◌, ◌<◌, ◌^◌, ◌∙◌, ◌∷◌, ◌≡◌}
 use Rattle.std.specs.Prelude.{◌&&◌, ◌==◌}
 use Rattle.std.proofs.lemmas.Bool.{and_parts, eqb-true, le-ltb}
 use Rattle.std.proofs.lemmas.List.{append-nil, length-append}
 use Rattle.std.proofs.lemmas.Nat.{from_be_bytes-to_be_bytes_2}
 use Rattle.std.specs.Char.{is_ascii_alphanumeric}
 use Rattle.std.specs.Int.{to_be_bytes, w16}
-use Rattle.std.specs.List.{AllByRecursion, list_all}
+use Rattle.std.specs.List.{flat_map, AllByRecursion, list_all}
 use Rattle.std.specs.Str.{bytes_eq}
 use Rattle.part_tree.specs.Names.{is_user_type}
 use Rattle.part_tree.specs.declared.field.Value.{Value}
@@ -18,41 +18,39 @@ use Rattle.container_model.specs.Chunk.{Chunk, Run, chunks, ends, spell_all, too
 use Rattle.container_model.specs.Items.{AreMade, IsMade, Item, OpensAs, Rereads, edit_carrier, item_token, put_all, values}
 use Rattle.container_model.specs.Sizes.{Level, atom_front, user}
 use Rattle.mov_model.specs.Atoms.{atom}
-use Rattle.mov_model.specs.User.{IsUserValue, text_language, found, text_bytes, text_size, text_then, texts, texts_in, udta, user_items, with_text}
+use Rattle.mov_model.specs.User.{IsUserValue, TextFits, text_language, found, text_bytes, text_size, text_then, texts, texts_in, udta, user_items, with_text}
 
--- one text is read as it is written
-text_read : (t : Value) → t.lang < 2 ^ 16 → length t.raw < 2 ^ 16 → texts (text_bytes t) ≡ t ∷ []
-text_read t l lt =
-    let n = length t.raw in
-    let b = text_bytes t in
-    let len : length b ≡ 4 + n = omega (arith, length-append (to_be_bytes w16 n) (to_be_bytes w16 t.lang ++ t.raw), length-append (to_be_bytes w16 t.lang) t.raw) in
-    let size : text_size b ≡ n = from_be_bytes-to_be_bytes_2 n lt in
-    let fits : ltb (length b) (4 + n) ≡ false = le-ltb _ _ (omega (arith, len)) in
+-- a text at the front is read as it is written
+text_step : (k : ℕ) (t : Value) (more : List ℕ) → t.lang < 2 ^ 16 → length t.raw < 2 ^ 16 → texts_in (suc k) (text_bytes t ++ more) ≡ with_text t (texts_in k more)
+text_step k t more l lt =
+    let b = text_bytes t ++ more in
+    let size : text_size b ≡ length t.raw = from_be_bytes-to_be_bytes_2 (length t.raw) lt in
     let lang : text_language b ≡ t.lang = from_be_bytes-to_be_bytes_2 t.lang l in
-    let split : drop 4 b ≡ t.raw = refl in
-    go b n len size fits lang split
+    let len : length b ≡ 4 + length (t.raw ++ more) = omega arith in
+    let fits : ltb (length b) (4 + text_size b) ≡ false = le-ltb _ _ (omega (arith, len, size, length-append t.raw more)) in
+    let text : take (text_size b) (t.raw ++ more) ≡ t.raw = ap (λ (n : ℕ). take n (t.raw ++ more)) size ∙ take_at t.raw more (length t.raw) refl in
+    let rest : drop (text_size b) (t.raw ++ more) ≡ more = ap (λ (n : ℕ). drop n (t.raw ++ more)) size ∙ drop_at t.raw more (length t.raw) refl in
+    ap (λ (u : Bool). text_then (texts_in k) b u) fits ∙ made (text_language b) (take (text_size b) (t.raw ++ more)) (drop (text_size b) (t.raw ++ more)) lang text rest
   where
-    all : (x : List ℕ) → take (length x) x ≡ x
-    all x = Rattle.std.proofs.lemmas.List.take_all (length x) x (omega arith)
+    made : (lang : ℕ) (text rest : List ℕ) → lang ≡ t.lang → text ≡ t.raw → rest ≡ more → with_text (record { lang = lang; raw = text }) (texts_in k rest) ≡ with_text t (texts_in k more)
+    made lang text rest e i j = rw (e, i, j) refl
 
-    none : (x : List ℕ) → drop (length x) x ≡ []
-    none x = Rattle.std.proofs.lemmas.List.drop_all (length x) x (omega arith)
+texts_step : (k : ℕ) (ts : List Value) → length ts ≤ k → AllByRecursion TextFits ts → texts_in k (flat_map text_bytes ts) ≡ Some ts
+texts_step zero [] le h = refl
+texts_step (suc k) [] le h = refl
+texts_step zero (t ∷ ts) le h = absurd (omega arith)
+texts_step (suc k) (t ∷ ts) le h = text_step k t (flat_map text_bytes ts) h.0.0 h.0.1 ∙ ap (with_text t) (texts_step k ts (omega arith) h.1)
 
-    last : (k : ℕ) → found (with_text t (texts_in k [])) ≡ t ∷ []
-    last zero = refl
-    last (suc k) = refl
+as_many : (ts : List Value) → length ts ≤ length (flat_map text_bytes ts)
+as_many [] = omega arith
+as_many (t ∷ ts) = omega (arith, as_many ts, length-append (text_bytes t) (flat_map text_bytes ts))
 
-    made : (k lang : ℕ) (text rest : List ℕ) → lang ≡ t.lang → text ≡ t.raw → rest ≡ [] → found (with_text (record { lang = lang; raw = text }) (texts_in k rest)) ≡ t ∷ []
-    made k lang text rest e i j = rw (e, i, j) (last k)
+-- Texts are read as they are written.
+pub texts_read : (ts : List Value) → AllByRecursion TextFits ts → texts (flat_map text_bytes ts) ≡ ts
+texts_read ts h = ap found (texts_step (length (flat_map text_bytes ts)) ts (as_many ts) h)
 
-    go : (b : List ℕ) (n : ℕ) → length b ≡ 4 + n → text_size b ≡ n → ltb (length b) (4 + n) ≡ false → text_language b ≡ t.lang → drop 4 b ≡ t.raw → found (texts_in (length b) b) ≡ t ∷ []
-    go [] n len size fits lang split = absurd (omega (arith, len))
-    go (x ∷ b) n len size fits lang split =
-        let long : ltb (length (x ∷ b)) (4 + text_size (x ∷ b)) ≡ false = ap (λ (m : ℕ). ltb (length (x ∷ b)) (4 + m)) size ∙ fits in
-        let same : n ≡ length t.raw = omega (arith, len, ap length split, Rattle.std.proofs.lemmas.List.length-drop 4 (x ∷ b)) in
-        let text : take (text_size (x ∷ b)) (drop 4 (x ∷ b)) ≡ t.raw = ap (λ (m : ℕ). take m (drop 4 (x ∷ b))) (size ∙ same) ∙ ap (take (length t.raw)) split ∙ all t.raw in
-        let rest : drop (text_size (x ∷ b)) (drop 4 (x ∷ b)) ≡ [] = ap (λ (m : ℕ). drop m (drop 4 (x ∷ b))) (size ∙ same) ∙ ap (drop (length t.raw)) split ∙ none t.raw in
-        ap (λ (u : Bool). found (text_then (texts_in (length b)) (x ∷ b) u)) long ∙ made (length b) (text_language (x ∷ b)) (take (text_size (x ∷ b)) (drop 4 (x ∷ b))) (drop (text_size (x ∷ b)) (drop 4 (x ∷ b))) lang text rest
+text_read : (t : Value) → t.lang < 2 ^ 16 → length t.raw < 2 ^ 16 → texts (text_bytes t) ≡ t ∷ []
+text_read t l lt = ap texts (sym (append-nil (text_bytes t))) ∙ texts_read (t ∷ []) ((l, lt), tt)
 
 -- ---- what an edit may set
 

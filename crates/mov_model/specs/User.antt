@@ -45,6 +45,10 @@ texts b = found (texts_in (length b) b)
 abbrev pub text_bytes : Value → List ℕ
 text_bytes t = to_be_bytes w16 (length t.raw) ++ (to_be_bytes w16 t.lang ++ t.raw)
 
+-- a text whose length and language fit their two bytes
+abbrev pub TextFits : Value → Type 0
+TextFits t = (t.lang < 2 ^ 16) × (length t.raw < 2 ^ 16)
+
 -- what can be set: a type of user items, and a text with a language, both of which fit their two bytes
 abbrev pub IsUserValue : List ℕ → Option Value → Type 0
 IsUserValue name None = Unit {0}

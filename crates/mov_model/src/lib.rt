@@ -17,6 +17,8 @@ ghost use Rattle.part_tree.specs.declared.names.Kind.TheVariants.{Mov};
 ghost use Rattle.field_model.specs.Broken.{broken};
 ghost use Rattle.mov_model.specs.Cuts.{TablesStay, all_cuts, unit_cuts};
 ghost use Rattle.mov_model.specs.Room.{PatchesFit, Room, patched, patches};
+ghost use Rattle.std.specs.List.{AllByRecursion, flat_map};
+ghost use Rattle.mov_model.specs.User.{TextFits, text_bytes, texts};
 ghost use Rattle.mov_model.specs.Large.{too_large};
 
 /// For every supported movie and every edit that keeps the rules of Base, and after which nothing is too large, the new
@@ -71,4 +73,9 @@ pub fn patches_make_new()
 /// Where something is edited and nothing is too large, the new file has at most 2^63-1 bytes.
 pub fn new_is_no_larger()
     ensures { (o : List ℕ) (e : List EditItem) → too_large o e ≡ None → (changes o e ≡ []) ⊎ (length (new_file o e) ≤ 2 ^ 63 - 1) }
+{}
+
+/// Texts whose lengths and languages fit are read as they are written.
+pub fn texts_are_read_again()
+    ensures { (ts : List Value) → AllByRecursion TextFits ts → texts (flat_map text_bytes ts) ≡ ts }
 {}
