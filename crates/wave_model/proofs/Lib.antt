@@ -18,3 +18,4 @@ pub mod Why
 pub mod Spans
 pub mod Room
 pub mod Map
+pub mod Example

@@ -13,7 +13,9 @@ use Rattle.field_model.specs.Fields.{plain}
 use Rattle.field_model.specs.Update.{raw_items}
 use Rattle.container_model.specs.Chunk.{read, chunks}
 use Rattle.container_model.specs.Units.{units}
-use Rattle.wave_model.specs.Wave.{wave_of}
+use Rattle.part_tree.specs.declared.field.RuleSet.TheVariants.{Base}
+use Rattle.field_model.specs.Broken.{broken}
+use Rattle.wave_model.specs.Wave.{kind_of, wave_of}
 use Rattle.wave_model.specs.Fields.{fields}
 use Rattle.wave_model.specs.New.{new_file}
 use Rattle.wave_model.specs.Edited.{pieces}
@@ -90,7 +92,7 @@ title_again : new_file with_title set_title ≡ with_title
 unfolding new_file units chunks read
 title_again = refl
 
-title_no_sound : new_file no_sound set_title ≡ no_sound_titled
+pub title_no_sound : new_file no_sound set_title ≡ no_sound_titled
 unfolding new_file units chunks read
 title_no_sound = refl
 
@@ -146,6 +148,10 @@ two_titles_read : fields two_titles_dated (Info (four (codes "INAM"))) ≡ plain
 unfolding chunks read
 two_titles_read = refl
 
+description_too_wide : broken (kind_of short_sound) (fields short_sound) (record { name = Bext Description; change = Set (replicate 257 120) } ∷ []) Base ≡ Some (record { rule = 5; field = Bext Description })
+unfolding chunks read
+description_too_wide = refl
+
 rf64_parts : map (λ p. p.at) (parts_of_file rf64_titled) ≡ 12 ∷ 48 ∷ 72 ∷ 84 ∷ 96 ∷ []
 unfolding chunks read
 rf64_parts = refl
@@ -166,7 +172,7 @@ rf64_blocks : pieces rf64 ≡ ((1 ∷ 2 ∷ []) ∷ (3 ∷ 4 ∷ []) ∷ []) ∷
 unfolding chunks read
 rf64_blocks = refl
 
-supported_short : why short_sound ≡ None
+pub supported_short : why short_sound ≡ None
 unfolding why chunks read
 supported_short = refl
 
@@ -174,7 +180,7 @@ supported_bext : why with_bext ≡ None
 unfolding why chunks read
 supported_bext = refl
 
-supported_rf64 : why rf64 ≡ None
+pub supported_rf64 : why rf64 ≡ None
 unfolding why chunks read
 supported_rf64 = refl
 
