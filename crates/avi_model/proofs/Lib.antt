@@ -19,6 +19,10 @@ pub mod Supports
 pub mod OldOne
 pub mod OldIndex
 pub mod Rules
+pub mod Same
+pub mod Still
+pub mod Counted
+pub mod InPlace
 pub mod Sorted
 pub mod Whys
 pub mod Exact

@@ -3,13 +3,14 @@
 //! 1.0) and of AVI, the indexes those of OpenDML (AVI File Format Extensions 1.02). It knows no device and no code.
 #![tactic(auto)]
 
-ghost use Rattle.std.specs.Prelude.{◌≡◌, ℕ, List, length, None};
+ghost use Rattle.std.specs.Prelude.{◌≡◌, ℕ, List, length, take, None};
 ghost use Rattle.container_model.specs.Splice.{splice, Ascend};
 ghost use Rattle.me_bytes.specs.Bytes.{IsBytes};
 ghost use Rattle.part_tree.specs.declared.field.EditItem.{EditItem};
 ghost use Rattle.part_tree.specs.declared.field.RuleSet.TheVariants.{Base};
 ghost use Rattle.part_tree.specs.declared.names.Kind.TheVariants.{Avi};
 ghost use Rattle.field_model.specs.Broken.{broken};
+ghost use Rattle.carrier_model.specs.Room.{patched};
 ghost use Rattle.avi_model.specs.Avi.{avi_of, inner};
 ghost use Rattle.avi_model.specs.Index.{move, renumbered};
 ghost use Rattle.avi_model.specs.Support.{Supported};
@@ -17,6 +18,7 @@ ghost use Rattle.avi_model.specs.Why.{why};
 ghost use Rattle.avi_model.specs.NewFile.{Items, edit_cuts, with_size, moves, laid_file};
 ghost use Rattle.avi_model.specs.Edited.{AreNamed, Edited, fields, new_file};
 ghost use Rattle.avi_model.specs.Large.{too_large, new_avi};
+ghost use Rattle.avi_model.specs.Room.{Room, patches};
 
 use part_tree as _;
 
@@ -38,4 +40,9 @@ pub fn new_is_spliced()
     ensures spliced { (o : List ℕ) (e : Items) → IsBytes o → Supported o
         → laid_file o e ≡ with_size (length (inner (new_avi o e).children (new_avi o e).left)) (splice (renumbered (move (moves o e)) o) (edit_cuts (avi_of o) e)) }
     ensures ascend { (o : List ℕ) (e : Items) → IsBytes o → Supported o → Ascend 0 (edit_cuts (avi_of o) e) (length o) }
+{}
+
+/// Where an edit has room, its patches laid over the old file, at the new file's length, make the new file.
+pub fn patches_make_new()
+    ensures { (o : List ℕ) (e : List EditItem) → IsBytes o → Supported o → Room o e → take (length (new_file o e)) (patched (patches o e) o) ≡ new_file o e }
 {}
