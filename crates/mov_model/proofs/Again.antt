@@ -24,7 +24,9 @@ use Rattle.mov_model.proofs.Tables.{relocated_alike, relocated_other}
 use Rattle.mov_model.proofs.User.{atom_made}
 use Rattle.mov_model.specs.Atoms.{atom, atoms_in, cell_by, cell_of, format, is, is_padding, moov}
 use Rattle.mov_model.proofs.Fits.{Fits}
-use Rattle.mov_model.specs.Movie.{Movie, all_atoms, carried, carry_by, edit_cuts, ends_file, fill, first_cell, fresh, hanging, has_carrier, is_open, movie_of, new_kids, new_movie, padding, padding_behind, past_gaps, pieces_of, rest_behind, spell_movie, split, split_by, top_run, whole_pieces}
+use Rattle.mov_model.specs.Carried.{carried, carry_by, first_cell, fresh, has_carrier}
+use Rattle.mov_model.specs.Movie.{Movie, all_atoms, movie_of, spell_movie, split, split_by, top_run}
+use Rattle.mov_model.specs.New.{edit_cuts, ends_file, fill, hanging, is_open, new_kids, new_movie, padding, padding_behind, past_gaps, pieces_of, rest_behind, whole_pieces}
 use Rattle.mov_model.specs.Parts.{first_user, has_id}
 use Rattle.mov_model.specs.Support.{Supported}
 use Rattle.mov_model.specs.Tables.{relocated}

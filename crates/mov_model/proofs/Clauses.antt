@@ -25,7 +25,9 @@ use Rattle.mov_model.proofs.Tables.{all_long, moved_table, places_moved, relocat
 use Rattle.mov_model.specs.Atoms.{atom, atoms_in, cell_of, format, is, is_padding, moov}
 use Rattle.mov_model.proofs.Fits.{Fits, UserItems}
 use Rattle.mov_model.specs.Kept.{kept_in, nodes, placed}
-use Rattle.mov_model.specs.Movie.{Movie, all_atoms, carried, edit_cuts, edited_chunks, ends_file, ends_open, fill, gaps_of, grown, hanging, is_open, kids_at, new_kids, padding, padding_behind, past_gaps, pieces_of, rest_behind, slot_behind, whole_pieces}
+use Rattle.mov_model.specs.Carried.{carried, edited_chunks}
+use Rattle.mov_model.specs.Movie.{Movie, all_atoms}
+use Rattle.mov_model.specs.New.{edit_cuts, ends_file, ends_open, fill, gaps_of, grown, hanging, is_open, kids_at, new_kids, padding, padding_behind, past_gaps, pieces_of, rest_behind, slot_behind, whole_pieces}
 use Rattle.mov_model.specs.Parts.{first_items, first_user, parts, track_of, tracks}
 use Rattle.mov_model.specs.Pieces.{held, is_mdat, pieces_by, pieces_in, tail_of, track_pieces}
 use Rattle.mov_model.specs.Support.{IsHeld, Supported, TrackFine}

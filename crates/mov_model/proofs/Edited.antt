@@ -19,7 +19,8 @@ use Rattle.mov_model.proofs.Tables.{relocated_none}
 use Rattle.mov_model.specs.Atoms.{atoms_in, cell_by, cell_of, format, is_padding, moov}
 use Rattle.mov_model.proofs.Fits.{EditedBy, Fits, UserItems}
 use Rattle.mov_model.specs.Kept.{kept_in}
-use Rattle.mov_model.specs.Movie.{Movie, edit_cuts, ends_file, ends_open, fill, gaps_of, grown, hanging, is_open, kids_at, movie_of, edited_file, new_kids, new_movie, padding_behind, past_gaps, pieces_of, rest_behind, spell_movie, whole_pieces}
+use Rattle.mov_model.specs.Movie.{Movie, movie_of, spell_movie}
+use Rattle.mov_model.specs.New.{edit_cuts, ends_file, ends_open, fill, gaps_of, grown, hanging, is_open, kids_at, edited_file, new_kids, new_movie, padding_behind, past_gaps, pieces_of, rest_behind, whole_pieces}
 use Rattle.mov_model.specs.Parts.{first_items, parts}
 use Rattle.mov_model.specs.Pieces.{pieces_in}
 use Rattle.mov_model.specs.Support.{Supported}

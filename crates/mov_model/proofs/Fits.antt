@@ -6,7 +6,9 @@ use Rattle.container_model.specs.Chunk.{spell}
 use Rattle.container_model.specs.Items.{Item, edit_carrier, put_all, updated, values}
 use Rattle.container_model.specs.Splice.{shift}
 use Rattle.mov_model.specs.Kept.{kept, placed}
-use Rattle.mov_model.specs.Movie.{Movie, edit_cuts, fresh, has_carrier, movie_of, new_movie}
+use Rattle.mov_model.specs.Carried.{fresh, has_carrier}
+use Rattle.mov_model.specs.Movie.{Movie, movie_of}
+use Rattle.mov_model.specs.New.{edit_cuts, new_movie}
 use Rattle.mov_model.specs.Parts.{first_items, first_user, parts, tracks}
 use Rattle.mov_model.specs.Pieces.{pieces}
 use Rattle.mov_model.specs.Reading.{count_parts}

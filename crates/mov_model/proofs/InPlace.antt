@@ -21,7 +21,9 @@ use Rattle.container_model.proofs.Units.{BringsPad, drop_past, lay_splices, spel
 use Rattle.mov_model.specs.Atoms.{atom, cell_of, atoms_in}
 use Rattle.mov_model.specs.User.{user_items, udta}
 use Rattle.mov_model.specs.Tables.{tables, places}
-use Rattle.mov_model.specs.Movie.{Movie, all_atoms, movie_of, padding, fill, gaps_of, grown, carried, pieces_of, is_open, rest_behind, whole_pieces, ends_file, kids_at, edit_cuts, new_movie}
+use Rattle.mov_model.specs.Carried.{carried}
+use Rattle.mov_model.specs.Movie.{Movie, all_atoms, movie_of}
+use Rattle.mov_model.specs.New.{padding, fill, gaps_of, grown, pieces_of, is_open, rest_behind, whole_pieces, ends_file, kids_at, edit_cuts, new_movie}
 use Rattle.mov_model.specs.Parts.{tracks}
 use Rattle.mov_model.specs.Pieces.{next_number, held_here, held}
 use Rattle.mov_model.specs.Support.{IsHeld, TrackFine, Supported}

@@ -7,7 +7,7 @@ use Rattle.container_model.proofs.Places.{old_length}
 use Rattle.container_model.proofs.Units.{BringsPad, spell_all-append}
 use Rattle.container_model.specs.Chunk.{Chunk, spell, spell_all}
 use Rattle.container_model.specs.Units.{Cell, Piece, Slot, begun, closed, copied, edited, gap, is_empty, kept, kept_next, lacks_pad, lay, old_bytes, padded, replaced, shut, unit_bytes, units}
-use Rattle.mov_model.specs.Movie.{ends_open, fill, grown, hanging, padding}
+use Rattle.mov_model.specs.New.{ends_open, fill, grown, hanging, padding}
 
 -- only the last piece ends the list
 abbrev pub LastOnly : List Piece → Type 0

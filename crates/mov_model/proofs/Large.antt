@@ -18,7 +18,9 @@ use Rattle.mov_model.specs.Atoms.{is}
 use Rattle.mov_model.proofs.Fits.{EditedBy, Fits, UserItems}
 use Rattle.mov_model.specs.Kept.{Node, kept, nodes}
 use Rattle.mov_model.specs.Large.{Size, all_sizes, first_passing, passes, row_sizes, sized, table_sizes, size_passed, user_sizes}
-use Rattle.mov_model.specs.Movie.{Movie, edit_cuts, fresh, has_carrier, movie_of, edited_file}
+use Rattle.mov_model.specs.Carried.{fresh, has_carrier}
+use Rattle.mov_model.specs.Movie.{Movie, movie_of}
+use Rattle.mov_model.specs.New.{edit_cuts, edited_file}
 use Rattle.mov_model.specs.Parts.{first_user, parts, tracks}
 use Rattle.mov_model.specs.Support.{Supported}
 use Rattle.mov_model.specs.Tables.{FitsRows, rows, tables}

@@ -17,7 +17,9 @@ use Rattle.container_model.proofs.Read.{Atom, AtomForm}
 use Rattle.container_model.proofs.Units.{BringsPad, spell_all-append}
 use Rattle.mov_model.specs.Atoms.{cell_by, cell_of, is_padding}
 use Rattle.mov_model.specs.User.{user_items, udta}
-use Rattle.mov_model.specs.Movie.{Movie, movie_of, fill, gaps_of, grown, first_cell, add_last, only_gaps, add_new, fresh, carry_by, carried, has_carrier, pieces_of, is_open, whole_pieces, ends_file, kids_at, new_movie}
+use Rattle.mov_model.specs.Carried.{first_cell, add_last, only_gaps, add_new, fresh, carry_by, carried, has_carrier}
+use Rattle.mov_model.specs.Movie.{Movie, movie_of}
+use Rattle.mov_model.specs.New.{fill, gaps_of, grown, pieces_of, is_open, whole_pieces, ends_file, kids_at, new_movie}
 use Rattle.mov_model.specs.Support.{Supported}
 use Rattle.mov_model.specs.Edited.{changes, new_file}
 use Rattle.mov_model.specs.Room.{unit_fits, units_fit, patch, unit_patches, size_patch, moov_patch, patches, Room, InOrder, Touches, PatchesFit}

@@ -15,7 +15,7 @@ use Rattle.mov_model.proofs.Tables.{relocated_id, relocated_other, relocated_tok
 use Rattle.mov_model.proofs.User.{SetsUser, all_made, edited_again, fresh_again}
 use Rattle.mov_model.specs.Atoms.{format, is, moov}
 use Rattle.mov_model.specs.Kept.{Node, new_node, nodes, other, placed_nodes, plain_node, user, user_node}
-use Rattle.mov_model.specs.Movie.{edit_by, edited_chunks, first_carrier, fresh, has_carrier}
+use Rattle.mov_model.specs.Carried.{edit_by, edited_chunks, first_carrier, fresh, has_carrier}
 use Rattle.mov_model.specs.Parts.{first_items, first_user, track_of}
 use Rattle.mov_model.specs.Tables.{relocated}
 use Rattle.mov_model.specs.User.{udta, user_items}

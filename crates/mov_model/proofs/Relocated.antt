@@ -25,7 +25,9 @@ use Rattle.mov_model.proofs.Overlay.{Fixed, changed_brings, changed_cuts, change
 use Rattle.mov_model.proofs.Spans.{around, last, open_left}
 use Rattle.mov_model.proofs.Tables.{relocated_alike, relocated_other}
 use Rattle.mov_model.specs.Atoms.{atom, atoms_in, cell_of, format, moov}
-use Rattle.mov_model.specs.Movie.{Movie, all_atoms, carried, edit_cuts, ends_file, ends_open, fill, gaps_of, grown, hanging, is_open, kids_at, movie_of, edited_file, new_kids, new_movie, overlaid, padding_behind, pieces_of, rest_behind, spell_movie, whole_pieces, with_size}
+use Rattle.mov_model.specs.Carried.{carried}
+use Rattle.mov_model.specs.Movie.{Movie, all_atoms, movie_of, spell_movie}
+use Rattle.mov_model.specs.New.{edit_cuts, ends_file, ends_open, fill, gaps_of, grown, hanging, is_open, kids_at, edited_file, new_kids, new_movie, overlaid, padding_behind, pieces_of, rest_behind, whole_pieces, with_size}
 use Rattle.mov_model.specs.Pieces.{held}
 use Rattle.mov_model.specs.Support.{Supported}
 use Rattle.mov_model.specs.Tables.{relocated}
@@ -166,10 +168,10 @@ overlay_law o e bytes sup =
     (kids_all (shift (edit_cuts (movie_of o) e)) (kids o bytes sup) (kids_read o bytes sup).0 (whole_kids (kids o bytes sup) sup.movie.tracks_end) (kids_bytes o bytes sup))
 
 pub splice_law : (o : List ℕ) (e : List (Item Value)) → IsBytes o → Supported o
-    → spell_movie (Rattle.mov_model.specs.Movie.laid_movie (movie_of o) e) ≡ with_size (movie_of o) (length (Rattle.mov_model.specs.Movie.laid_movie (movie_of o) e).movie.body) (splice o (edit_cuts (movie_of o) e))
+    → spell_movie (Rattle.mov_model.specs.New.laid_movie (movie_of o) e) ≡ with_size (movie_of o) (length (Rattle.mov_model.specs.New.laid_movie (movie_of o) e).movie.body) (splice o (edit_cuts (movie_of o) e))
 splice_law o e bytes sup =
     Rattle.mov_model.proofs.Spans.laid_is_spliced (movie_of o) e (kids_joined o bytes sup) (moov_padless o bytes sup)
-    ∙ ap (λ (b : List ℕ). with_size (movie_of o) (length (Rattle.mov_model.specs.Movie.laid_movie (movie_of o) e).movie.body) (splice b (edit_cuts (movie_of o) e))) (file_bytes o bytes sup)
+    ∙ ap (λ (b : List ℕ). with_size (movie_of o) (length (Rattle.mov_model.specs.New.laid_movie (movie_of o) e).movie.body) (splice b (edit_cuts (movie_of o) e))) (file_bytes o bytes sup)
 
 pub held_law : (o : List ℕ) (p : ℕ) (x : ℕ × List ℕ) → IsBytes o → Supported o → held 0 p (all_atoms (movie_of o)) ≡ Some x → take (length x.1) (drop p o) ≡ x.1
 held_law o p x bytes sup h = ap (λ (b : List ℕ). take (length x.1) (drop p b)) (sym (file_bytes o bytes sup)) ∙ held_bytes 0 p (all_atoms (movie_of o)) (movie_of o).left x h

@@ -9,7 +9,7 @@ use Rattle.container_model.specs.Chunk.{read, chunks}
 use Rattle.container_model.specs.Units.{units}
 use Rattle.container_model.specs.Deep.{mend, leaves}
 use Rattle.container_model.specs.Walk.{walk}
-use Rattle.mov_model.specs.Movie.{edited_file}
+use Rattle.mov_model.specs.New.{edited_file}
 use Rattle.mov_model.specs.Edited.{fields, new_file}
 use Rattle.mov_model.specs.Large.{too_large}
 use Rattle.mov_model.specs.Room.{has_room, patch, patches}

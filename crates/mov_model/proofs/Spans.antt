@@ -14,7 +14,9 @@ use Rattle.mov_model.proofs.Cells.{was_carried, was_read}
 use Rattle.mov_model.proofs.Clauses.{behind_split, opened_last, whole_brings}
 use Rattle.mov_model.proofs.Laid.{grown_bytes, grown_laid, last_units}
 use Rattle.mov_model.specs.Atoms.{atoms_in, cell_of}
-use Rattle.mov_model.specs.Movie.{Movie, carried, edit_cuts, ends_file, fill, gaps_of, grown, hanging, is_open, kids_at, laid_kids, laid_movie, padding_behind, pieces_of, rest_behind, slot_behind, spell_movie, whole_pieces, with_size}
+use Rattle.mov_model.specs.Carried.{carried}
+use Rattle.mov_model.specs.Movie.{Movie, spell_movie}
+use Rattle.mov_model.specs.New.{edit_cuts, ends_file, fill, gaps_of, grown, hanging, is_open, kids_at, laid_kids, laid_movie, padding_behind, pieces_of, rest_behind, slot_behind, whole_pieces, with_size}
 use Rattle.mov_model.specs.User.{udta, user_items}
 
 nil_is : (x : List ℕ) → is_nil x ≡ true → x ≡ []
@@ -38,7 +40,7 @@ module _ (m : Movie) (e : List (Item Value)) (joined : spell_all (atoms_in m.mov
   last = last_units shut (carried udta user_items e (map cell_of (atoms_in m.movie).chunks))
 
   pub open_left : is_open m e ≡ true → left ≡ []
-  open_left o = nil_is left (and_parts (is_nil left) (Rattle.mov_model.specs.Movie.ends_open (pieces_of m e)) o).0
+  open_left o = nil_is left (and_parts (is_nil left) (Rattle.mov_model.specs.New.ends_open (pieces_of m e)) o).0
 
   pub old_inner : m.movie.body ++ (spell_all m.behind ++ m.left) ≡ flat_map old_bytes (whole_pieces m e) ++ behind_pieces
   old_inner = ap (λ (cs : List Chunk). m.movie.body ++ (spell_all cs ++ m.left)) (sym (behind_split m e)) ∙ ap (λ (x : List ℕ). x ++ (spell_all (slot_behind m e ++ rest_behind m e) ++ m.left)) (sym joined) ∙ go (is_open m e) refl

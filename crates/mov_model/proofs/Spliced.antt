@@ -16,7 +16,9 @@ use Rattle.container_model.proofs.Units.{AllCells, lay_splices, spell_all-append
 use Rattle.mov_model.specs.Atoms.{cell_of, atoms_in}
 use Rattle.mov_model.specs.User.{user_items, udta}
 use Rattle.mov_model.specs.Tables.{relocated}
-use Rattle.mov_model.specs.Movie.{Movie, spell_movie, movie_of, fill, gaps_of, grown, fresh, carried, pieces_of, is_open, whole_pieces, ends_file, kids_at, edit_cuts, laid_movie, new_movie, edited_file}
+use Rattle.mov_model.specs.Carried.{fresh, carried}
+use Rattle.mov_model.specs.Movie.{Movie, spell_movie, movie_of}
+use Rattle.mov_model.specs.New.{fill, gaps_of, grown, pieces_of, is_open, whole_pieces, ends_file, kids_at, edit_cuts, laid_movie, new_movie, edited_file}
 use Rattle.mov_model.specs.Support.{Supported}
 use Rattle.mov_model.specs.Edited.{changes, new_file}
 use Rattle.mov_model.specs.Cuts.{kid_cuts, header_cut, all_cuts}

@@ -24,7 +24,9 @@ use Rattle.container_model.proofs.Walk.{StillLeaf, all_parts, mend_still}
 use Rattle.mov_model.specs.Atoms.{Place, file, user_data, moov, trak, mdia, minf, stbl, dinf, is, format, is_padding, cell_of, atoms_in, when}
 use Rattle.mov_model.specs.User.{user_items, udta}
 use Rattle.mov_model.specs.Tables.{count, rows, with_rows, places_in, moved_body, moved_leaf, relocated, in_stbl, tables, places}
-use Rattle.mov_model.specs.Movie.{Movie, movie_of, fill, fresh, carried, pieces_of, is_open, laid_movie, laid_kids, new_kids, new_movie, edit_cuts, edited_file}
+use Rattle.mov_model.specs.Carried.{fresh, carried}
+use Rattle.mov_model.specs.Movie.{Movie, movie_of}
+use Rattle.mov_model.specs.New.{fill, pieces_of, is_open, laid_movie, laid_kids, new_kids, new_movie, edit_cuts, edited_file}
 use Rattle.mov_model.specs.Parts.{track_of, tracks}
 use Rattle.mov_model.specs.Support.{Supported}
 use Rattle.mov_model.specs.Edited.{changes, new_file}
@@ -152,7 +154,7 @@ laid_same o e bytes sup h =
     let m = movie_of o in
     let f = shift (edit_cuts m e) in
     let stay = all_stay f (kids o bytes sup) h (whole_kids (kids o bytes sup) sup.movie.tracks_end) (kids_bytes o bytes sup) (kids_read o bytes sup).0 in
-    ap (λ (ks : List Chunk). Rattle.mov_model.specs.Movie.with_kids m e ks) (kids_stay f m e stay)
+    ap (λ (ks : List Chunk). Rattle.mov_model.specs.New.with_kids m e ks) (kids_stay f m e stay)
 
 pub stay_law : (o : List ℕ) (e : List EditItem) → IsBytes o → Supported o → TablesStay o e → new_file o e ≡ splice o (unit_cuts (movie_of o) (changes o e))
 unfolding edited_file

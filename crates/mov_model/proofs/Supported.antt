@@ -22,7 +22,8 @@ use Rattle.mov_model.proofs.User.{edited_again, fresh_again}
 use Rattle.mov_model.specs.Atoms.{format, is, is_padding, moov}
 use Rattle.mov_model.proofs.Fits.{Fits, UserItems}
 use Rattle.mov_model.specs.Kind.{is_movie}
-use Rattle.mov_model.specs.Movie.{Movie, all_atoms, edit_by, edited_chunks, first_carrier, fresh, has_carrier, spell_movie}
+use Rattle.mov_model.specs.Carried.{edit_by, edited_chunks, first_carrier, fresh, has_carrier}
+use Rattle.mov_model.specs.Movie.{Movie, all_atoms, spell_movie}
 use Rattle.mov_model.specs.Parts.{first_user, has_id, parts, tracks}
 use Rattle.mov_model.specs.Reading.{no_twice}
 use Rattle.mov_model.specs.Support.{IsHeld, MovieFine, Supported, TrackFine, is_refused}

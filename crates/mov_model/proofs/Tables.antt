@@ -19,7 +19,8 @@ use Rattle.container_model.specs.Rows.{Width, be32, be64, changed}
 use Rattle.mov_model.specs.Atoms.{Place, dinf, file, format, is, mdia, minf, moov, opens, stbl, trak, user_data}
 use Rattle.mov_model.specs.Kept.{blank_rows, look, look_table}
 use Rattle.mov_model.specs.Reading.{names, names_of, once}
-use Rattle.mov_model.specs.Tables.{FitsRows, count, in_dinf, in_stbl, is_other_offsets, is_short_table, moved_body, moved_leaf, need, places, places_in, references, relocated, rows, runs_in, samples, sizes_in, tables, with_rows}
+use Rattle.mov_model.specs.Samples.{runs_in, samples, sizes_in}
+use Rattle.mov_model.specs.Tables.{FitsRows, count, in_dinf, in_stbl, is_other_offsets, is_short_table, moved_body, moved_leaf, need, places, places_in, references, relocated, rows, tables, with_rows}
 
 module _ (w : Width) (bound : ℕ) (sp : Spells w bound) (f : ℕ → ℕ) where
   -- ---- a table

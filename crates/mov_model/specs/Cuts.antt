@@ -12,7 +12,8 @@ use Rattle.container_model.specs.Splice.{Cut, shift}
 use Rattle.container_model.specs.Walk.{Step, chunk_at, end_at, body_at, walk}
 use Rattle.mov_model.specs.Atoms.{Place, moov, stbl, is, format}
 use Rattle.mov_model.specs.Tables.{count, places, rows, tables}
-use Rattle.mov_model.specs.Movie.{Movie, movie_of, edit_cuts, fill, whole_pieces, ends_file, kids_at, new_movie}
+use Rattle.mov_model.specs.Movie.{Movie, movie_of}
+use Rattle.mov_model.specs.New.{edit_cuts, fill, whole_pieces, ends_file, kids_at, new_movie}
 use Rattle.mov_model.specs.Parts.{tracks}
 use Rattle.mov_model.specs.Edited.{changes}
 use Rattle.mov_model.specs.Reading.{moov_steps}

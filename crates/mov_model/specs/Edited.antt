@@ -10,7 +10,8 @@ use Rattle.field_model.specs.Fields.{FieldMap}
 use Rattle.field_model.specs.Update.{RawItem, effective, raw_items, update}
 use Rattle.container_model.specs.Items.{Item, values}
 use Rattle.mov_model.specs.Kept.{kept, placed}
-use Rattle.mov_model.specs.Movie.{movie_of, edited_file}
+use Rattle.mov_model.specs.Movie.{movie_of}
+use Rattle.mov_model.specs.New.{edited_file}
 use Rattle.mov_model.specs.Parts.{first_items, parts}
 use Rattle.mov_model.specs.Pieces.{pieces}
 use Rattle.mov_model.specs.Support.{Supported}

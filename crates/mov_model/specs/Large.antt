@@ -9,7 +9,9 @@ use Rattle.container_model.specs.Items.{Item, edit_carrier, put_all}
 use Rattle.container_model.specs.Rows.{be32, be64}
 use Rattle.container_model.specs.Splice.{shift}
 use Rattle.mov_model.specs.Atoms.{is}
-use Rattle.mov_model.specs.Movie.{Movie, movie_of, edit_cuts, fresh, has_carrier, new_movie, spell_movie}
+use Rattle.mov_model.specs.Carried.{fresh, has_carrier}
+use Rattle.mov_model.specs.Movie.{Movie, movie_of, spell_movie}
+use Rattle.mov_model.specs.New.{edit_cuts, new_movie}
 use Rattle.mov_model.specs.Parts.{first_user, parts, tracks}
 use Rattle.mov_model.specs.Reading.{count_parts}
 use Rattle.mov_model.specs.Tables.{rows, tables}

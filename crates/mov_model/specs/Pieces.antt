@@ -4,7 +4,8 @@ use Rattle.container_model.specs.Chunk.{Chunk, header_bytes, spell}
 use Rattle.mov_model.specs.Atoms.{is}
 use Rattle.mov_model.specs.Movie.{Movie, all_atoms, movie_of}
 use Rattle.mov_model.specs.Parts.{tracks}
-use Rattle.mov_model.specs.Tables.{places, samples, tables}
+use Rattle.mov_model.specs.Samples.{samples}
+use Rattle.mov_model.specs.Tables.{places, tables}
 
 -- it holds the essence
 abbrev pub is_mdat : Chunk → Bool

@@ -7,7 +7,8 @@ use Rattle.part_tree.specs.declared.plan.Patch.{Patch}
 use Rattle.container_model.specs.Chunk.{Form, short, long, spell, spell_all}
 use Rattle.container_model.specs.Items.{Item, is_nil}
 use Rattle.container_model.specs.Units.{Piece, copied, replaced, Fill, unit_bytes}
-use Rattle.mov_model.specs.Movie.{Movie, movie_of, fill, whole_pieces, ends_file, kids_at, new_movie}
+use Rattle.mov_model.specs.Movie.{Movie, movie_of}
+use Rattle.mov_model.specs.New.{fill, whole_pieces, ends_file, kids_at, new_movie}
 use Rattle.mov_model.specs.Edited.{changes}
 
 -- ---- units that fit
