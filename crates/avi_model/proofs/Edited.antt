@@ -1,10 +1,11 @@
--- The law: for every edit that names fields and keeps the rules, after which nothing is too large, the new file is the old one edited.
+-- The law: for every edit that keeps the rules, after which nothing is too large, the new file is the old one edited.
 use Rattle.std.proofs.Common.{◌≡◌, ℕ, suc, ◌^◌, ◌<◌, ◌≤◌, Bool, true, false, cond, List, [], ◌∷◌, ◌++◌, length, map, Option, Some, None, refl, sym, ap, subst, ◌∙◌, arith}
-use Rattle.std.specs.Prelude.{◌||◌}
+use Rattle.std.specs.Prelude.{◌||◌, option_map}
 use Rattle.std.specs.Str.{bytes_eq}
 use Rattle.std.specs.List.{filter_map, list_any, AllByRecursion}
 use Rattle.me_bytes.specs.Bytes.{IsBytes}
-use Rattle.part_tree.specs.Names.{same_name}
+use Rattle.part_tree.specs.Names.{IsFieldName, info_ids, same_name}
+use Rattle.part_tree.specs.declared.names.FourCc.{FourCc}
 use Rattle.part_tree.specs.declared.field.EditItem.{EditItem}
 use Rattle.part_tree.specs.declared.field.FieldName.{FieldName}
 use Rattle.part_tree.specs.declared.field.FieldName.TheVariants.{Bext, Info, Whole, User}
@@ -17,7 +18,7 @@ use Rattle.field_model.specs.Update.{RawItem, effective, raw_item, raw_items, up
 use Rattle.container_model.specs.Items.{updated}
 use Rattle.container_model.specs.Splice.{Cut, splice, Ascend, shift}
 use Rattle.container_model.proofs.Items.{same_true, same_refl}
-use Rattle.carrier_model.specs.Info.{SetsInfo}
+use Rattle.carrier_model.specs.Info.{one_of, SetsInfo}
 use Rattle.carrier_model.specs.Lists.{Node, place_lists, place_by, place_nth, part_of, has_list}
 use Rattle.avi_model.specs.Avi.{Avi as AviFile, avi_of, inner, spell_avi, hdrls}
 use Rattle.avi_model.specs.Index.{move, writes, renumbered}
@@ -25,7 +26,7 @@ use Rattle.avi_model.specs.Pieces.{pieces}
 use Rattle.avi_model.specs.Support.{Supported, movis}
 use Rattle.avi_model.specs.NewFile.{Items, home, new_children, edit_cuts, laid, with_size, moves, laid_file, edited_file}
 use Rattle.avi_model.specs.Kept.{Kept, kept, placed}
-use Rattle.avi_model.specs.Edited.{info_values, fields, info_item, info_edit, changes, new_file, AreNamed, Edited}
+use Rattle.avi_model.specs.Edited.{info_values, fields, info_item, info_edit, changes, new_file, Edited}
 use Rattle.avi_model.specs.Large.{too_large_by, too_large, new_avi}
 use Rattle.avi_model.proofs.Read.{renewed_avi}
 use Rattle.avi_model.proofs.Frames.{same_cuts, ascends, over, again as read_again}
@@ -121,9 +122,9 @@ same_either a b = go (bytes_eq a b) (bytes_eq b a) refl refl
     go false true e i = let same : b ≡ a = same_true b a i in let yes : bytes_eq a b ≡ true = rw same (same_refl a) in absurd cc
 
 -- the values of an INFO field
-values_same : (rs : List RawItem) (id : _) (vs : List (List ℕ)) → AreInfo rs → map plain (updated (info_edit rs) id.0 vs) ≡ updated_values rs (Info id) (map plain vs)
-values_same [] id vs u = refl
-values_same (r ∷ rs) id vs u = go r.name r.value u.0.0 u.0.1 (λ ws. values_same rs id ws u.1)
+values_same : (rs : List RawItem) (id : FourCc) (vs : List (List ℕ)) → one_of info_ids id.0 ≡ true → AreInfo rs → map plain (updated (info_edit rs) id.0 vs) ≡ updated_values rs (Info id) (map plain vs)
+values_same [] id vs n u = refl
+values_same (r ∷ rs) id vs n u = go r.name r.value u.0.0 u.0.1 (λ ws. values_same rs id ws n u.1)
   where
     choose : (t : Bool) (xs : List (List ℕ)) → map plain (cond t xs vs) ≡ cond t (map plain xs) (map plain vs)
     choose true xs = refl
@@ -134,11 +135,23 @@ values_same (r ∷ rs) id vs u = go r.name r.value u.0.0 u.0.1 (λ ws. values_sa
     go (Bext field) value u l again = absurd u
     go (User j) value u l again = absurd u
     go (Whole j) value u l again = absurd u
-    go (Info j) None u l again =
-        again (cond (bytes_eq id.0 j.0) [] vs) ∙ ap (updated_values rs (Info id)) (choose (bytes_eq id.0 j.0) []) ∙ ap (λ (t : Bool). updated_values rs (Info id) (cond t [] (map plain vs))) (same_either id.0 j.0)
-    go (Info j) (Some v) u l again =
-        again (cond (bytes_eq id.0 j.0) (v.raw ∷ []) vs) ∙ ap (updated_values rs (Info id)) (choose (bytes_eq id.0 j.0) (v.raw ∷ [])) ∙ ap (λ (t : Bool). updated_values rs (Info id) (cond t (plain v.raw ∷ []) (map plain vs))) (same_either id.0 j.0)
-        ∙ ap (λ (x : Value). updated_values rs (Info id) (cond (bytes_eq j.0 id.0) (x ∷ []) (map plain vs))) (sym l)
+    go (Info j) value u l again = typed (one_of info_ids j.0) refl
+      where
+        apart : one_of info_ids j.0 ≡ false → (t : Bool) → bytes_eq j.0 id.0 ≡ t → t ≡ false
+        apart e true i = let yes : one_of info_ids j.0 ≡ true = ap (one_of info_ids) (same_true j.0 id.0 i) ∙ n in absurd cc
+        apart e false i = refl
+
+        set : (v : Option Value) → HasNoLanguage v
+            → map plain (updated (record { name = j.0; value = option_map (λ (v : Value). v.raw) v } ∷ info_edit rs) id.0 vs) ≡ updated_values rs (Info id) (cond (bytes_eq j.0 id.0) (Rattle.field_model.specs.Update.listed v) (map plain vs))
+        set None l = again (cond (bytes_eq id.0 j.0) [] vs) ∙ ap (updated_values rs (Info id)) (choose (bytes_eq id.0 j.0) []) ∙ ap (λ (t : Bool). updated_values rs (Info id) (cond t [] (map plain vs))) (same_either id.0 j.0)
+        set (Some v) l =
+            again (cond (bytes_eq id.0 j.0) (v.raw ∷ []) vs) ∙ ap (updated_values rs (Info id)) (choose (bytes_eq id.0 j.0) (v.raw ∷ [])) ∙ ap (λ (t : Bool). updated_values rs (Info id) (cond t (plain v.raw ∷ []) (map plain vs))) (same_either id.0 j.0)
+            ∙ ap (λ (x : Value). updated_values rs (Info id) (cond (bytes_eq j.0 id.0) (x ∷ []) (map plain vs))) (sym l)
+
+        typed : (t : Bool) → one_of info_ids j.0 ≡ t
+            → map plain (updated (cond t (record { name = j.0; value = option_map (λ (v : Value). v.raw) value } ∷ []) [] ++ info_edit rs) id.0 vs) ≡ updated_values rs (Info id) (cond (bytes_eq j.0 id.0) (Rattle.field_model.specs.Update.listed value) (map plain vs))
+        typed true e = set value l
+        typed false e = again vs ∙ ap (λ (t : Bool). updated_values rs (Info id) (cond t (Rattle.field_model.specs.Update.listed value) (map plain vs))) (sym (apart e (bytes_eq j.0 id.0) refl))
 
 -- no other name has values
 other_name : (name : FieldName) → (IsInfoName name → ⊥) → (rs : List RawItem) → AreInfo rs → updated_values rs name [] ≡ []
@@ -164,9 +177,9 @@ no_bext (r ∷ rs) u = go r.name u.0.0 (no_bext rs u.1)
     go (User id) u again = absurd u
     go (Whole id) u again = absurd u
 
-pub edit_law : (o : List ℕ) (e : List EditItem) → IsBytes o → Supported o → AreNamed e → broken Avi (fields o) e Base ≡ None → too_large o e ≡ None → Edited o e (new_file o e)
-edit_law o e bytes s named rules small =
-    let g = items_give (fields o) e named rules in
+pub edit_law : (o : List ℕ) (e : List EditItem) → IsBytes o → Supported o → broken Avi (fields o) e Base ≡ None → too_large o e ≡ None → Edited o e (new_file o e)
+edit_law o e bytes s rules small =
+    let g = items_give (fields o) e rules in
     let by = items_law o (changes o e) bytes s g.1 small in
     record {
       supported = by.supported;
@@ -176,11 +189,11 @@ edit_law o e bytes s named rules small =
       no_effect = λ none. ap (λ (x : Items). edited_file o x) (ap (λ (items : List EditItem). info_edit (filter_map raw_item items)) none);
     }
   where
-    read : ((id : List ℕ) → info_values (new_file o e) id ≡ updated (changes o e) id (info_values o id)) → AreInfo (raw_items (fields o) e) → (name : FieldName) → fields (new_file o e) name ≡ update (fields o) e name
-    read v g (Info id) = ap (map plain) (v id.0) ∙ values_same (raw_items (fields o) e) id (info_values o id.0) g
-    read v g (Whole id) = sym (other_name (Whole id) (λ x. x) (raw_items (fields o) e) g)
-    read v g (User id) = sym (other_name (User id) (λ x. x) (raw_items (fields o) e) g)
-    read v g (Bext field) = sym (Rattle.std.proofs.lemmas.Bool.cond-false (list_any (λ (i : RawItem). is_bext i.name) (raw_items (fields o) e)) _ _ (no_bext (raw_items (fields o) e) g))
+    read : ((id : List ℕ) → info_values (new_file o e) id ≡ updated (changes o e) id (info_values o id)) → AreInfo (raw_items (fields o) e) → (name : FieldName) → IsFieldName name → fields (new_file o e) name ≡ update (fields o) e name
+    read v g (Info id) n = ap (map plain) (v id.0) ∙ values_same (raw_items (fields o) e) id (info_values o id.0) n g
+    read v g (Whole id) n = sym (other_name (Whole id) (λ x. x) (raw_items (fields o) e) g)
+    read v g (User id) n = sym (other_name (User id) (λ x. x) (raw_items (fields o) e) g)
+    read v g (Bext field) n = sym (Rattle.std.proofs.lemmas.Bool.cond-false (list_any (λ (i : RawItem). is_bext i.name) (raw_items (fields o) e)) _ _ (no_bext (raw_items (fields o) e) g))
 
 -- The file that is laid is the old one with its numbers moved, then spliced, then its form's size set.
 pub spliced_law : (o : List ℕ) (e : Items) → IsBytes o → Supported o

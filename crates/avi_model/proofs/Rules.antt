@@ -2,7 +2,7 @@
 use Rattle.std.proofs.Common.{◌≡◌, ℕ, suc, Bool, true, false, cond, List, [], ◌∷◌, ◌++◌, map, Option, Some, None, refl}
 use Rattle.std.specs.Prelude.{not, filter, nat_le}
 use Rattle.std.specs.List.{AllByRecursion, filter_map, cons_option}
-use Rattle.part_tree.specs.Names.{IsFieldName, field_place}
+use Rattle.part_tree.specs.Names.{field_place, info_ids}
 use Rattle.part_tree.specs.declared.field.Broken.{Broken}
 use Rattle.part_tree.specs.declared.field.Change.{Change}
 use Rattle.part_tree.specs.declared.field.Change.TheVariants.{Set, Remove}
@@ -17,9 +17,9 @@ use Rattle.field_model.specs.Broken.{Rule, on_item, chooses, failing, findings_f
 use Rattle.part_tree.specs.declared.field.Value.{Value}
 use Rattle.field_model.specs.Fields.{FieldMap, plain}
 use Rattle.field_model.specs.Rules.{too_long}
-use Rattle.field_model.specs.Update.{RawItem, effective, has_effect, raw_item, raw_items, raw_change}
-use Rattle.carrier_model.specs.Info.{SetsInfo}
-use Rattle.avi_model.specs.Edited.{AreNamed, info_edit}
+use Rattle.field_model.specs.Update.{RawItem, effective, raw_item, raw_items, raw_change}
+use Rattle.carrier_model.specs.Info.{one_of, SetsInfo}
+use Rattle.avi_model.specs.Edited.{info_edit}
 
 -- ---- lists of which nothing is found
 
@@ -110,29 +110,28 @@ HasNoLanguage (Some v) = v ≡ plain v.raw
 abbrev pub AreInfo : List RawItem → Type 0
 AreInfo rs = AllByRecursion (λ (r : RawItem). IsInfoName r.name × HasNoLanguage r.value) rs
 
-all_filter : {A : Type 0} (P : A → Type 0) (p : A → Bool) (xs : List A) → AllByRecursion P xs → AllByRecursion P (filter p xs)
-all_filter P p [] h = tt
-all_filter P p (x ∷ xs) h = go (p x) (all_filter P p xs h.1)
-  where
-    go : (t : Bool) → AllByRecursion P (filter p xs) → AllByRecursion P (cond t (x ∷ filter p xs) (filter p xs))
-    go true again = (h.0, again)
-    go false again = again
-
 -- what an item gives, before others
 abbrev Gives : List RawItem → Type 0
 Gives rs = AreInfo rs × SetsInfo (info_edit rs)
 
-one_gives : (name : FieldName) (change : Change) (rs : List RawItem) → IsFieldName name → not (has_field Avi name) ≡ false → Gives rs → Gives (cons_option (raw_change name change) rs)
-one_gives (Bext field) change rs n h g = absurd cc
-one_gives (Whole id) change rs n h g = absurd cc
-one_gives (User id) change rs n h g = absurd cc
-one_gives (Info id) Remove rs n h g = (((tt, tt), g.0), (n, g.1))
-one_gives (Info id) (Set text) rs n h g = (((tt, refl), g.0), (n, g.1))
+one_gives : (name : FieldName) (change : Change) (rs : List RawItem) → not (has_field Avi name) ≡ false → Gives rs → Gives (cons_option (raw_change name change) rs)
+one_gives (Bext field) change rs h g = absurd cc
+one_gives (Whole id) change rs h g = absurd cc
+one_gives (User id) change rs h g = absurd cc
+one_gives (Info id) change rs h g = set change
+  where
+    sets : (v : Option (List ℕ)) (t : Bool) → one_of info_ids id.0 ≡ t → SetsInfo (cond t (record { name = id.0; value = v } ∷ []) [] ++ info_edit rs)
+    sets v true n = (n, g.1)
+    sets v false n = g.1
 
-all_give : (es : List EditItem) → AreNamed es → AllByRecursion (Kept Avi) es → Gives (filter_map raw_item es)
-all_give [] n k = (tt, tt)
-all_give (i ∷ es) n k = one_gives i.name i.change (filter_map raw_item es) n.0 k.0.field (all_give es n.1 k.1)
+    set : (change : Change) → Gives (cons_option (raw_change (Info id) change) rs)
+    set Remove = (((tt, tt), g.0), sets None (one_of info_ids id.0) refl)
+    set (Set text) = (((tt, refl), g.0), sets (Some (text ++ 0 ∷ [])) (one_of info_ids id.0) refl)
+
+all_give : (es : List EditItem) → AllByRecursion (Kept Avi) es → Gives (filter_map raw_item es)
+all_give [] k = (tt, tt)
+all_give (i ∷ es) k = one_gives i.name i.change (filter_map raw_item es) k.0.field (all_give es k.1)
 
 -- the items that have an effect are INFO items
-pub items_give : (f : FieldMap) (e : List EditItem) → AreNamed e → broken Avi f e Base ≡ None → AreInfo (raw_items f e) × SetsInfo (info_edit (raw_items f e))
-items_give f e n none = all_give (effective f e) (all_filter (λ (i : EditItem). IsFieldName i.name) (has_effect f) e n) (base_kept Avi f e none)
+pub items_give : (f : FieldMap) (e : List EditItem) → broken Avi f e Base ≡ None → AreInfo (raw_items f e) × SetsInfo (info_edit (raw_items f e))
+items_give f e none = all_give (effective f e) (base_kept Avi f e none)

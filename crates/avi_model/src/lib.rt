@@ -16,7 +16,7 @@ ghost use Rattle.avi_model.specs.Index.{move, renumbered};
 ghost use Rattle.avi_model.specs.Support.{Supported};
 ghost use Rattle.avi_model.specs.Why.{why};
 ghost use Rattle.avi_model.specs.NewFile.{Items, edit_cuts, with_size, moves, laid_file};
-ghost use Rattle.avi_model.specs.Edited.{AreNamed, Edited, fields, new_file};
+ghost use Rattle.avi_model.specs.Edited.{Edited, fields, new_file};
 ghost use Rattle.avi_model.specs.Large.{too_large, new_avi};
 ghost use Rattle.avi_model.specs.Room.{Room, patches};
 
@@ -26,7 +26,7 @@ use part_tree as _;
 /// large, the new file is the old one edited. It holds for both bases of `idx1`, and for OpenDML indexes in any number of
 /// forms.
 pub fn new_is_edited()
-    ensures { (o : List ℕ) (e : List EditItem) → IsBytes o → Supported o → AreNamed e → broken Avi (fields o) e Base ≡ None → too_large o e ≡ None → Edited o e (new_file o e) }
+    ensures { (o : List ℕ) (e : List EditItem) → IsBytes o → Supported o → broken Avi (fields o) e Base ≡ None → too_large o e ≡ None → Edited o e (new_file o e) }
 {}
 
 /// An AVI file is supported exactly where no test of the reading order holds.
