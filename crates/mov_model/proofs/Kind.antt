@@ -1,17 +1,19 @@
 -- The new file is a movie by its first bytes.
-use Rattle.std.proofs.Common.{◌≡◌, ℕ, ◌+◌, ◌^◌, ◌≤◌, ◌<◌, Bool, true, false, List, [], ◌++◌, length, take, drop, refl, sym, ap, ◌∙◌, append_assoc, arith, inl, inr}
-use Rattle.std.specs.Prelude.{◌⊎◌, codes, not}
+use Rattle.std.proofs.Common.{cond, Some, None, subst, ◌≡◌, ℕ, ◌+◌, ◌^◌, ◌≤◌, ◌<◌, Bool, true, false, List, [], ◌++◌, length, take, drop, refl, sym, ap, ◌∙◌, append_assoc, arith, inl, inr}
+use Rattle.std.specs.Prelude.{◌&&◌, ◌⊎◌, codes}
 use Rattle.std.specs.Str.{bytes_eq}
 use Rattle.std.specs.Int.{w32, w64, to_be_bytes, from_be_bytes}
-use Rattle.std.proofs.lemmas.Bool.{and_parts, cases_lt}
+use Rattle.std.proofs.lemmas.Bool.{cases_lt}
 use Rattle.std.proofs.lemmas.List.{length-append, take_at, drop_at, drop-append-le, take-append-le, length-drop}
 use Rattle.std.proofs.lemmas.Nat.{from_be_bytes-to_be_bytes_4}
+use Rattle.std.specs.List.{list_any}
+use Rattle.part_tree.specs.Kinds.{is_form_of, is_movie, movie_types}
+use Rattle.part_tree.specs.declared.names.Kind.TheVariants.{Wave, Rf64, Avi, Mov}
 use Rattle.container_model.specs.Chunk.{Form, riff, wide, short, long, to_end, header_bytes, Chunk, spell}
 use Rattle.container_model.specs.Sizes.{top}
 use Rattle.container_model.proofs.Items.{same_true}
 use Rattle.container_model.proofs.Read.{Atom, AtomForm}
-use Rattle.mov_model.specs.Atoms.{is_listed}
-use Rattle.mov_model.specs.Kind.{first_types, is_form, is_movie}
+use Rattle.mov_model.specs.Kind.{is_mov, begins_movie}
 
 -- the first four bytes of an atom
 abbrev word : Form → ℕ → List ℕ
@@ -64,36 +66,58 @@ other_word n k w le e lt = go (bytes_eq (to_be_bytes w32 n) w) refl
         absurd (omega arith)
     go false h = refl
 
-no_form : (n : ℕ) (type : List ℕ) → n ≤ 2 ^ 26 → is_form (to_be_bytes w32 n) type ≡ false
-no_form n type le =
-    let a : bytes_eq (to_be_bytes w32 n) (codes "RIFF") ≡ false = other_word n 1380533830 (codes "RIFF") le refl (omega arith) in
-    let b : bytes_eq (to_be_bytes w32 n) (codes "RF64") ≡ false = other_word n 1380333108 (codes "RF64") le refl (omega arith) in
-    rw (a, b) refl
+-- a word that begins no form
+abbrev NoForm : List ℕ → Type 0
+NoForm w = (bytes_eq w (codes "RIFF") ≡ false) × (bytes_eq w (codes "RF64") ≡ false)
 
-small_word : (form : Form) (n : ℕ) (type : List ℕ) → AtomForm form → (form ≡ short → n + 8 ≤ 2 ^ 26) → is_form (word form n) type ≡ false
-small_word form n type (inl e) le = rw e (no_form (n + 8) type (le e))
-small_word form n type (inr (inl e)) le = rw e (no_form 1 type (omega arith))
-small_word form n type (inr (inr e)) le = rw e (no_form 0 type (omega arith))
+no_form : (n : ℕ) → n ≤ 2 ^ 26 → NoForm (to_be_bytes w32 n)
+no_form n le = (other_word n 1380533830 (codes "RIFF") le refl (omega arith), other_word n 1380333108 (codes "RF64") le refl (omega arith))
 
-movie_by : (b : List ℕ) → is_form (take 4 b) (take 4 (drop 8 b)) ≡ false → is_listed (take 4 (drop 4 b)) first_types ≡ true → is_movie b ≡ true
-movie_by b f t = rw (f, t) refl
+small_word : (form : Form) (n : ℕ) → AtomForm form → (form ≡ short → n + 8 ≤ 2 ^ 26) → NoForm (word form n)
+small_word form n (inl e) le = subst (λ (g : Form). NoForm (word g n)) (sym e) (no_form (n + 8) (le e))
+small_word form n (inr (inl e)) le = subst (λ (g : Form). NoForm (word g n)) (sym e) (no_form 1 (omega arith))
+small_word form n (inr (inr e)) le = subst (λ (g : Form). NoForm (word g n)) (sym e) (no_form 0 (omega arith))
+
+-- no form of RIFF or RF64 that is another kind
+record IsOther (b : List ℕ) : Type 0 where
+  wave : is_form_of (codes "RIFF") (codes "WAVE") b ≡ false
+  rf64 : is_form_of (codes "RF64") (codes "WAVE") b ≡ false
+  avi : is_form_of (codes "RIFF") (codes "AVI ") b ≡ false
+
+movie_by : (b : List ℕ) → IsOther b → is_movie b ≡ true → begins_movie b ≡ true
+movie_by b f t = rw (f.wave, f.rf64, f.avi, t) refl
+
+movie_parts : (b : List ℕ) → begins_movie b ≡ true → IsOther b × (is_movie b ≡ true)
+movie_parts b h = go (is_form_of (codes "RIFF") (codes "WAVE") b) (is_form_of (codes "RF64") (codes "WAVE") b) (is_form_of (codes "RIFF") (codes "AVI ") b) (is_movie b) refl refl refl refl h
+  where
+    go : (t u v w : Bool) → is_form_of (codes "RIFF") (codes "WAVE") b ≡ t → is_form_of (codes "RF64") (codes "WAVE") b ≡ u → is_form_of (codes "RIFF") (codes "AVI ") b ≡ v → is_movie b ≡ w
+        → is_mov (cond t (Some Wave) (cond u (Some Rf64) (cond v (Some Avi) (cond w (Some Mov) None)))) ≡ true → IsOther b × (is_movie b ≡ true)
+    go true u v w a c d k h = absurd cc
+    go false true v w a c d k h = absurd cc
+    go false false true w a c d k h = absurd cc
+    go false false false true a c d k h = (record { wave = a; rf64 = c; avi = d }, k)
+    go false false false false a c d k h = absurd cc
+
+other_by : (b : List ℕ) → NoForm (take 4 b) → IsOther b
+other_by b n = record { wave = rw n.0 refl; rf64 = rw n.1 refl; avi = rw n.0 refl }
+
+small_other : (c : Chunk) (more : List ℕ) → AtomForm c.form → (c.form ≡ short → length c.body + 8 ≤ 2 ^ 26) → IsOther (spell c ++ more)
+small_other c more form le = other_by (spell c ++ more) (subst NoForm (sym (first_word c more form)) (small_word c.form (length c.body) form le))
 
 -- a file that begins with a small moov
-pub moov_first : (c : Chunk) (more : List ℕ) → AtomForm c.form → c.id ≡ codes "moov" → length c.body + 8 ≤ 2 ^ 26 → is_movie (spell c ++ more) ≡ true
+pub moov_first : (c : Chunk) (more : List ℕ) → AtomForm c.form → c.id ≡ codes "moov" → length c.body + 8 ≤ 2 ^ 26 → begins_movie (spell c ++ more) ≡ true
 moov_first c more form id le =
     let four : length c.id ≡ 4 = ap length id in
-    movie_by (spell c ++ more)
-    (ap (λ (w : List ℕ). is_form w (take 4 (drop 8 (spell c ++ more)))) (first_word c more form) ∙ small_word c.form (length c.body) (take 4 (drop 8 (spell c ++ more))) form (λ e. le))
-    (ap (λ (t : List ℕ). is_listed t first_types) (first_type c more form four ∙ id))
+    movie_by (spell c ++ more) (small_other c more form (λ e. le)) (ap (λ (t : List ℕ). list_any (bytes_eq t) movie_types) (first_type c more form four ∙ id))
 
 third : (c : Chunk) (more : List ℕ) → 12 ≤ length (spell c) → take 4 (drop 8 (spell c ++ more)) ≡ take 4 (drop 8 (spell c))
 third c more le = ap (take 4) (drop-append-le 8 (spell c) more (omega arith)) ∙ take-append-le 4 (drop 8 (spell c)) more (omega (arith, length-drop 8 (spell c)))
 
 -- a file that begins with the same atom
-pub same_first : (c : Chunk) (more other : List ℕ) → Atom top c → is_movie (spell c ++ more) ≡ true → is_movie (spell c ++ other) ≡ true
+pub same_first : (c : Chunk) (more other : List ℕ) → Atom top c → begins_movie (spell c ++ more) ≡ true → begins_movie (spell c ++ other) ≡ true
 same_first c more other a h =
     movie_by (spell c ++ other) (go (cases_lt (length (spell c)) 12))
-    (ap (λ (t : List ℕ). is_listed t first_types) (first_type c other form a.id_len ∙ sym (first_type c more form a.id_len)) ∙ old.1)
+    (ap (λ (t : List ℕ). list_any (bytes_eq t) movie_types) (first_type c other form a.id_len ∙ sym (first_type c more form a.id_len)) ∙ old.1)
   where
     atom_form : (c.form ≡ short) ⊎ (c.form ≡ long) → AtomForm c.form
     atom_form (inl e) = inl e
@@ -102,19 +126,21 @@ same_first c more other a h =
     form : AtomForm c.form
     form = atom_form a.short_or_long
 
-    not_true : (t : Bool) → not t ≡ true → t ≡ false
-    not_true true e = absurd cc
-    not_true false e = refl
-
-    old : (is_form (take 4 (spell c ++ more)) (take 4 (drop 8 (spell c ++ more))) ≡ false) × (is_listed (take 4 (drop 4 (spell c ++ more))) first_types ≡ true)
-    old = let p = and_parts (not (is_form (take 4 (spell c ++ more)) (take 4 (drop 8 (spell c ++ more))))) (is_listed (take 4 (drop 4 (spell c ++ more))) first_types) h in (not_true _ p.0, p.1)
+    old : IsOther (spell c ++ more) × (is_movie (spell c ++ more) ≡ true)
+    old = movie_parts (spell c ++ more) h
 
     low : length (spell c) < 12 → c.form ≡ short → length c.body + 8 ≤ 2 ^ 26
     low lt e = omega (arith, length-append (header_bytes c.form c.id (length c.body)) (c.body ++ c.pad), length-append c.body c.pad)
 
-    go : (length (spell c) < 12) ⊎ (12 ≤ length (spell c)) → is_form (take 4 (spell c ++ other)) (take 4 (drop 8 (spell c ++ other))) ≡ false
-    go (inl lt) =
-        ap (λ (w : List ℕ). is_form w (take 4 (drop 8 (spell c ++ other)))) (first_word c other form) ∙ small_word c.form (length c.body) (take 4 (drop 8 (spell c ++ other))) form (low lt)
-    go (inr le) =
-        ap (λ (w : List ℕ). is_form w (take 4 (drop 8 (spell c ++ other)))) (first_word c other form ∙ sym (first_word c more form))
-        ∙ ap (is_form (take 4 (spell c ++ more))) (third c other le ∙ sym (third c more le)) ∙ old.0
+    same_form : (id word : List ℕ) → 12 ≤ length (spell c) → is_form_of id word (spell c ++ other) ≡ is_form_of id word (spell c ++ more)
+    same_form id word le =
+        ap (λ (w : List ℕ). bytes_eq w id && bytes_eq (take 4 (drop 8 (spell c ++ other))) word) (first_word c other form ∙ sym (first_word c more form))
+        ∙ ap (λ (w : List ℕ). bytes_eq (take 4 (spell c ++ more)) id && bytes_eq w word) (third c other le ∙ sym (third c more le))
+
+    go : (length (spell c) < 12) ⊎ (12 ≤ length (spell c)) → IsOther (spell c ++ other)
+    go (inl lt) = small_other c other form (low lt)
+    go (inr le) = record {
+      wave = same_form (codes "RIFF") (codes "WAVE") le ∙ old.0.wave;
+      rf64 = same_form (codes "RF64") (codes "WAVE") le ∙ old.0.rf64;
+      avi = same_form (codes "RIFF") (codes "AVI ") le ∙ old.0.avi;
+    }

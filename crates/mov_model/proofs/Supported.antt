@@ -21,7 +21,7 @@ use Rattle.mov_model.proofs.Tables.{all_long, others_all, places_moved, relocate
 use Rattle.mov_model.proofs.User.{edited_again, fresh_again}
 use Rattle.mov_model.specs.Atoms.{format, is, is_padding, moov}
 use Rattle.mov_model.proofs.Fits.{Fits, UserItems}
-use Rattle.mov_model.specs.Kind.{is_movie}
+use Rattle.mov_model.specs.Kind.{begins_movie}
 use Rattle.mov_model.specs.Carried.{edit_by, edited_chunks, first_carrier, fresh, has_carrier}
 use Rattle.mov_model.specs.Movie.{Movie, all_atoms, spell_movie}
 use Rattle.mov_model.specs.Parts.{first_user, has_id, parts, tracks}
@@ -193,14 +193,14 @@ module _ (o : List ℕ) (bytes : IsBytes o) (sup : Supported o) (e : List (Item 
       head form (inr (inl e)) = rw (e, sup.movie.is_moov) (omega arith)
       head form (inr (inr e)) = rw (e, sup.movie.is_moov) (omega arith)
 
-  new_kind : is_movie (spell_movie new) ≡ true
-  new_kind = go old.before (before_read o bytes sup) (ap is_movie (file_bytes o bytes sup) ∙ sup.kind)
+  new_kind : begins_movie (spell_movie new) ≡ true
+  new_kind = go old.before (before_read o bytes sup) (ap begins_movie (file_bytes o bytes sup) ∙ sup.kind)
     where
-      go : (a : List Chunk) → AllByRecursion (Atom top) a → is_movie (spell_all (a ++ old.movie ∷ old.behind) ++ old.left) ≡ true → is_movie (spell_all (a ++ new.movie ∷ new.behind) ++ new.left) ≡ true
-      go [] r k = ap is_movie (append_assoc (spell new.movie) (spell_all new.behind) new.left) ∙ moov_first new.movie (spell_all new.behind ++ new.left) moov_form sup.movie.is_moov moov_len
+      go : (a : List Chunk) → AllByRecursion (Atom top) a → begins_movie (spell_all (a ++ old.movie ∷ old.behind) ++ old.left) ≡ true → begins_movie (spell_all (a ++ new.movie ∷ new.behind) ++ new.left) ≡ true
+      go [] r k = ap begins_movie (append_assoc (spell new.movie) (spell_all new.behind) new.left) ∙ moov_first new.movie (spell_all new.behind ++ new.left) moov_form sup.movie.is_moov moov_len
       go (c ∷ a) r k =
-          ap is_movie (append_assoc (spell c) (spell_all (a ++ new.movie ∷ new.behind)) new.left)
-          ∙ same_first c (spell_all (a ++ old.movie ∷ old.behind) ++ old.left) (spell_all (a ++ new.movie ∷ new.behind) ++ new.left) r.0 (ap is_movie (sym (append_assoc (spell c) (spell_all (a ++ old.movie ∷ old.behind)) old.left)) ∙ k)
+          ap begins_movie (append_assoc (spell c) (spell_all (a ++ new.movie ∷ new.behind)) new.left)
+          ∙ same_first c (spell_all (a ++ old.movie ∷ old.behind) ++ old.left) (spell_all (a ++ new.movie ∷ new.behind) ++ new.left) r.0 (ap begins_movie (sym (append_assoc (spell c) (spell_all (a ++ old.movie ∷ old.behind)) old.left)) ∙ k)
 
   pub new_supported : Supported (spell_movie new)
   new_supported = record {

@@ -8,7 +8,7 @@ use Rattle.container_model.specs.Walk.{Step, end_at}
 use Rattle.container_model.proofs.Items.{same_true}
 use Rattle.container_model.proofs.Walk.{all_parts, all_join}
 use Rattle.mov_model.specs.Atoms.{Place, file, moov, is, is_listed, is_padding, atoms_in}
-use Rattle.mov_model.specs.Kind.{is_movie}
+use Rattle.mov_model.specs.Kind.{begins_movie}
 use Rattle.mov_model.specs.Tables.{tables, places}
 use Rattle.mov_model.specs.Movie.{Movie, split_by, split, all_atoms, top_run, movie_of}
 use Rattle.mov_model.specs.Parts.{parts, has_id, tracks, first_user}
@@ -258,4 +258,4 @@ module _ (b : List ℕ) where
       let i = bad_none (atoms_in m.movie).stop s.movie.atoms_end in
       let moov_tests = parts_good met kid_steps_now moov_end kid_tests (i.0, (i.1, tt)) in
       let steps = parts_good [] first_steps (file_end ∷ moov_steps m) file_tests (e.0, (e.1, (false_not (met_moov (back first_steps [])) (moov_met ∙ s.has_moov), moov_tests))) in
-      none_first (tests b) (false_not (is_movie b) s.kind, all_join Fails (tests_from [] (reading b)) (chunk_tests (all_atoms m) 1 (tracks m)) steps (held_chunks (all_atoms m) 1 (tracks m) t.1))
+      none_first (tests b) (false_not (begins_movie b) s.kind, all_join Fails (tests_from [] (reading b)) (chunk_tests (all_atoms m) 1 (tracks m)) steps (held_chunks (all_atoms m) 1 (tracks m) t.1))

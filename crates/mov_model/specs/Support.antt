@@ -5,7 +5,7 @@ use Rattle.container_model.specs.Chunk.{Chunk, ends, spell}
 use Rattle.container_model.specs.Deep.{Whole}
 use Rattle.container_model.specs.Units.{solids}
 use Rattle.mov_model.specs.Atoms.{atoms_in, format, is, is_padding, moov}
-use Rattle.mov_model.specs.Kind.{is_movie}
+use Rattle.mov_model.specs.Kind.{begins_movie}
 use Rattle.mov_model.specs.Movie.{Movie, all_atoms, movie_of, top_run}
 use Rattle.mov_model.specs.Parts.{first_user, has_id, parts, tracks}
 use Rattle.mov_model.specs.Pieces.{held}
@@ -46,7 +46,7 @@ pub record MovieFine (m : Movie) : Type 0 where
 
 -- A file that is supported: a movie by its first bytes, whose atoms end as they should, with a moov that is fine.
 pub record Supported (b : List ℕ) : Type 0 where
-  pub kind : is_movie b ≡ true
+  pub kind : begins_movie b ≡ true
   pub atoms_end : (top_run b).stop ≡ ends
   pub has_moov : has_id (codes "moov") (top_run b).chunks ≡ true
   pub movie : MovieFine (movie_of b)

@@ -9,7 +9,7 @@ use Rattle.container_model.specs.Chunk.{Chunk, Stop, bad_header, ends, spell}
 use Rattle.container_model.specs.Items.{listed}
 use Rattle.container_model.specs.Walk.{Step, chunk_at, end_at}
 use Rattle.mov_model.specs.Atoms.{Place, dinf, file, is, is_listed, moov, stbl, user_data}
-use Rattle.mov_model.specs.Kind.{is_movie}
+use Rattle.mov_model.specs.Kind.{begins_movie}
 use Rattle.mov_model.specs.Movie.{all_atoms, movie_of}
 use Rattle.mov_model.specs.Parts.{tracks}
 use Rattle.mov_model.specs.Pieces.{held}
@@ -161,7 +161,7 @@ chunk_tests atoms n (t ∷ ts) = place_tests atoms n 1 (places (tables t)) ++ ch
 
 -- all tests in order: the kind, the atoms, the chunks
 abbrev pub tests : List ℕ → List Test
-tests b = (not (is_movie b), UnknownKind) ∷ (tests_from [] (reading b) ++ chunk_tests (all_atoms (movie_of b)) 1 (tracks (movie_of b)))
+tests b = (not (begins_movie b), UnknownKind) ∷ (tests_from [] (reading b) ++ chunk_tests (all_atoms (movie_of b)) 1 (tracks (movie_of b)))
 
 -- why a file is refused, or none
 abbrev pub why : List ℕ → Option Why
