@@ -20,7 +20,7 @@ use Rattle.container_model.proofs.Units.{From, From-low, splice_past}
 use Rattle.container_model.proofs.Walk.{OfLeaf, Sound, all_parts}
 use Rattle.mov_model.specs.Atoms.{Place, file, user_data, moov, trak, mdia, minf, stbl, dinf, is, opens, format}
 use Rattle.mov_model.specs.Tables.{count, rows, with_rows, is_short_table, moved_body, moved_leaf, relocated}
-use Rattle.mov_model.specs.Cuts.{table_cut, table_cuts, step_cuts, kid_cuts}
+use Rattle.mov_model.specs.Cuts.{kid_cuts, step_cuts, table_cut, table_of, tables_at}
 use Rattle.mov_model.proofs.Kids.{KidOk}
 use Rattle.mov_model.proofs.Steps.{AtomFine, low_prefix}
 use Rattle.mov_model.proofs.Tables.{LongRows, long_rows, keeps, relocated_other}
@@ -38,20 +38,20 @@ module _ (f : ℕ → ℕ) where
     abbrev with_table : Chunk → Chunk
     with_table c = record c { body = with_rows w f c }
 
-    table_from : (at : ℕ) (c : Chunk) (more : List Cut) → From at (table_cut f w at c ∷ more)
+    table_from : (at : ℕ) (c : Chunk) (more : List Cut) → From at (table_cut f c (table_of w at c) ∷ more)
     table_from at c more = omega arith
 
-    table_ascend : (at : ℕ) (c : Chunk) (more : List Cut) (end : ℕ) → 8 + w.bytes * count c ≤ length c.body → Ascend (at + length (spell c)) more end → Ascend at (table_cut f w at c ∷ more) end
+    table_ascend : (at : ℕ) (c : Chunk) (more : List Cut) (end : ℕ) → 8 + w.bytes * count c ≤ length c.body → Ascend (at + length (spell c)) more end → Ascend at (table_cut f c (table_of w at c) ∷ more) end
     table_ascend at c more end long h =
         let head = header_bytes c.form c.id (length c.body) in
-        (omega arith, low_more (end_of (table_cut f w at c)) (at + length (spell c)) more end (omega (arith, length-append head (c.body ++ c.pad), length-append c.body c.pad)) h)
+        (omega arith, low_more (end_of (table_cut f c (table_of w at c))) (at + length (spell c)) more end (omega (arith, length-append head (c.body ++ c.pad), length-append c.body c.pad)) h)
       where
         low_more : (low high : ℕ) (cs : List Cut) (end : ℕ) → low ≤ high → Ascend high cs end → Ascend low cs end
         low_more low high [] end le h = omega arith
         low_more low high (c ∷ cs) end le h = (omega (arith, h.0), h.1)
 
     table_makes : (at : ℕ) (c : Chunk) (rest : List ℕ) (more : List Cut) → 8 + w.bytes * count c ≤ length c.body → From (at + length (spell c)) more
-        → splice_from at (spell c ++ rest) (table_cut f w at c ∷ more) ≡ spell (with_table c) ++ splice_from (at + length (spell c)) rest more
+        → splice_from at (spell c ++ rest) (table_cut f c (table_of w at c) ∷ more) ≡ spell (with_table c) ++ splice_from (at + length (spell c)) rest more
     table_makes at c rest more long from =
         let n = w.bytes * count c in
         let head = header_bytes c.form c.id (length c.body) in
@@ -59,7 +59,7 @@ module _ (f : ℕ → ℕ) where
         let old = take n (drop 8 c.body) in
         let tail = drop n (drop 8 c.body) in
         let new = spelled w (map f (rows w c)) in
-        let x = table_cut f w at c in
+        let x = table_cut f c (table_of w at c) in
         let room : n ≤ length (drop 8 c.body) = omega (arith, length-drop 8 c.body) in
         let front_len : length front ≡ 8 = omega (arith, length-take 8 c.body) in
         let old_len : length old ≡ n = omega (arith, length-take n (drop 8 c.body)) in
@@ -100,14 +100,14 @@ module _ (f : ℕ → ℕ) where
   stays at c = record { from = λ more h. none_from (λ x. x) at c more h; ascend = λ more end h. low_ascend at (at + length (spell c)) more end (omega arith) h; turns = λ rest more h. none_makes at c rest more h }
 
   -- a table in stbl
-  table_turns : (at : ℕ) (c : Chunk) → is_short_table c ≡ false → Turns (table_cuts f at c) at c (record c { body = moved_body f c })
+  table_turns : (at : ℕ) (c : Chunk) → is_short_table c ≡ false → Turns (map (table_cut f c) (tables_at at c)) at c (record c { body = moved_body f c })
   table_turns at c short = go (is c (codes "stco")) (is c (codes "co64")) refl refl
     where
       l : LongRows c
       l = long_rows c short
 
       go : (t u : Bool) → is c (codes "stco") ≡ t → is c (codes "co64") ≡ u
-          → Turns (cond t (table_cut f be32 at c ∷ []) (cond u (table_cut f be64 at c ∷ []) [])) at c (record c { body = cond t (with_rows be32 f c) (cond u (with_rows be64 f c) c.body) })
+          → Turns (map (table_cut f c) (cond t (table_of be32 at c ∷ []) (cond u (table_of be64 at c ∷ []) []))) at c (record c { body = cond t (with_rows be32 f c) (cond u (with_rows be64 f c) c.body) })
       go true u e i = record { from = λ more h. table_from be32 (2 ^ 32) be32_spells at c more; ascend = λ more end h. table_ascend be32 (2 ^ 32) be32_spells at c more end (l.0 e) h; turns = λ rest more h. table_makes be32 (2 ^ 32) be32_spells at c rest more (l.0 e) h }
       go false true e i = record { from = λ more h. table_from be64 (2 ^ 64) be64_spells at c more; ascend = λ more end h. table_ascend be64 (2 ^ 64) be64_spells at c more end (l.1 i) h; turns = λ rest more h. table_makes be64 (2 ^ 64) be64_spells at c rest more (l.1 i) h }
       go false false e i = stays at c

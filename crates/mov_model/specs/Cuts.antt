@@ -56,16 +56,12 @@ offset_places b = flat_map (λ (t : RowTable). row_spans t.at t.width.bytes t.ro
 -- ---- the spans that an edit replaces
 
 -- the rows of a table, each with its new place
-abbrev pub table_cut : (ℕ → ℕ) → Width → ℕ → Chunk → Cut
-table_cut f w at c = record { at = body_at at c + 8; len = w.bytes * count c; bytes = spelled w (map f (rows w c)) }
-
--- the rows of a table of chunk places
-abbrev pub table_cuts : (ℕ → ℕ) → ℕ → Chunk → List Cut
-table_cuts f at c = if is c (codes "stco") then table_cut f be32 at c ∷ [] else (if is c (codes "co64") then table_cut f be64 at c ∷ [] else [])
+abbrev pub table_cut : (ℕ → ℕ) → Chunk → RowTable → Cut
+table_cut f c t = record { at = t.at; len = t.width.bytes * t.rows; bytes = spelled t.width (map f (rows t.width c)) }
 
 -- tables stand in stbl
 abbrev pub step_cuts : (ℕ → ℕ) → Step Place → List Cut
-step_cuts f (chunk_at stbl at c) = table_cuts f at c
+step_cuts f (chunk_at stbl at c) = map (table_cut f c) (tables_at at c)
 step_cuts f (chunk_at p at c) = []
 step_cuts f (end_at p at stop) = []
 
