@@ -5,3 +5,4 @@ pub mod Views
 pub mod Quiet
 pub mod Renewed
 pub mod Room
+pub mod Order

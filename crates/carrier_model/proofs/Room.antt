@@ -14,10 +14,10 @@ use Rattle.carrier_model.specs.Room.{leaves_padding, fits_slot, units_fit, patch
 
 -- ---- a unit that fits and doesn't end the file
 
-record Fits (slot u p : List ℕ) : Type 0 where
-  room_is : length (u ++ take 8 p) ≤ length slot
-  stays : take 8 p ++ drop (length (u ++ take 8 p)) slot ≡ p
-  fills : length (u ++ p) ≡ length slot
+pub record Fits (slot u p : List ℕ) : Type 0 where
+  pub room_is : length (u ++ take 8 p) ≤ length slot
+  pub stays : take 8 p ++ drop (length (u ++ take 8 p)) slot ≡ p
+  pub fills : length (u ++ p) ≡ length slot
 
 filled : (slot u : List ℕ) → fits_slot false (length slot) (length u) ≡ true → Fits slot u (spell_all (fill_by slot (length u) (leb (length slot) (length u) || false)))
 filled slot u h = go (eqb (length u) (length slot)) refl h
@@ -117,7 +117,7 @@ module _ (ends : Bool) where
   fill : Fill
   fill = riff_fill ends
 
-  piece_is : (lead : List Chunk) (slot : List ℕ) (now f : List Chunk) → spell_all (map padded lead) ≡ spell_all lead ++ lead_pad lead
+  pub piece_is : (lead : List Chunk) (slot : List ℕ) (now f : List Chunk) → spell_all (map padded lead) ≡ spell_all lead ++ lead_pad lead
       → spell_all (map padded lead ++ (now ++ f)) ≡ spell_all lead ++ (unit_bytes lead now ++ spell_all f)
   piece_is lead slot now f h =
       spell_all-append (map padded lead) (now ++ f) ∙ ap (λ (z : List ℕ). z ++ spell_all (now ++ f)) h ∙ ap (λ (z : List ℕ). (spell_all lead ++ lead_pad lead) ++ z) (spell_all-append now f)
@@ -129,14 +129,14 @@ module _ (ends : Bool) where
   fill_else : (last : Bool) (slot : List ℕ) (s : ℕ) → (ends && last) ≡ false → riff_fill ends last slot s ≡ fill_by slot s (leb (length slot) s || false)
   fill_else last slot s e = ap (λ (t : Bool). fill_by slot s (leb (length slot) s || t)) e
 
-  fill_none : (last : Bool) (slot : List ℕ) (s : ℕ) → (ends && last) ≡ true → riff_fill ends last slot s ≡ []
+  pub fill_none : (last : Bool) (slot : List ℕ) (s : ℕ) → (ends && last) ≡ true → riff_fill ends last slot s ≡ []
   fill_none last slot s e = ap (λ (t : Bool). fill_by slot s (leb (length slot) s || t)) e ∙ ap (fill_by slot s) (or_true (leb (length slot) s))
     where
       or_true : (t : Bool) → (t || true) ≡ true
       or_true true = refl
       or_true false = refl
 
-  piece_fits : (last : Bool) (slot u : List ℕ) → (ends && last) ≡ false → fits_slot (ends && last) (length slot) (length u) ≡ true → Fits slot u (spell_all (riff_fill ends last slot (length u)))
+  pub piece_fits : (last : Bool) (slot u : List ℕ) → (ends && last) ≡ false → fits_slot (ends && last) (length slot) (length u) ≡ true → Fits slot u (spell_all (riff_fill ends last slot (length u)))
   piece_fits last slot u e h =
       subst (λ (cs : List Chunk). Fits slot u (spell_all cs)) (sym (fill_else last slot (length u) e)) (filled slot u (ap (λ (t : Bool). fits_slot t (length slot) (length u)) (sym e) ∙ h))
 

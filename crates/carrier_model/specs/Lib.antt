@@ -3,3 +3,4 @@ pub mod Lists
 pub mod Info
 pub mod Large
 pub mod Room
+pub mod Order

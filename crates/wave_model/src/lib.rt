@@ -16,7 +16,7 @@ ghost use Rattle.wave_model.specs.Edited.{Supported, Edited, parts, sounds};
 ghost use Rattle.wave_model.specs.Map.{parts_of_file, sound};
 ghost use Rattle.wave_model.specs.Large.{too_large, FormSmall};
 ghost use Rattle.wave_model.specs.Why.{why};
-ghost use Rattle.wave_model.specs.Room.{Room, patches};
+ghost use Rattle.wave_model.specs.Room.{Room, patches, SoundPatches};
 ghost use Rattle.carrier_model.specs.Room.{patched};
 
 /// For every supported file and every edit that breaks no basic rule and is not too large, the new file is the old one
@@ -50,9 +50,11 @@ pub fn new_file_is_no_larger()
         → (effective (fields o) e ≡ []) ⊎ ((length (new_file o e) ≤ 2 ^ 63 - 1) × FormSmall (wave_of o).form (wave_of o).id (new_size_of o e)) }
 {}
 
-/// Where an edit has room in place, its patches, laid over the old file at the new length, make the new file.
+/// Where an edit has room in place, its patches, laid over the old file at the new length, make the new file; they are
+/// in order, lie in the new file, have at most 16 MiB, and cover what the file gains.
 pub fn patches_make_the_file()
-    ensures { (o : List ℕ) (e : List EditItem) → IsBytes o → Supported o → Room o e → new_file o e ≡ take (length (new_file o e)) (patched (patches o e) o) }
+    ensures made { (o : List ℕ) (e : List EditItem) → IsBytes o → Supported o → Room o e → new_file o e ≡ take (length (new_file o e)) (patched (patches o e) o) }
+    ensures sound { (o : List ℕ) (e : List EditItem) → IsBytes o → Supported o → Room o e → SoundPatches (length o) (length (new_file o e)) (patches o e) }
 {}
 
 /// A reader tells as many parts of a supported file as are counted, and its sound is the body of `data`.

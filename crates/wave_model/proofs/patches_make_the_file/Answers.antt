@@ -1,5 +1,5 @@
-use Rattle.wave_model.proofs.Room.{room_law}
+use Rattle.wave_model.proofs.Room.{room_law, order_law}
 use Rattle.wave_model.proofs.patches_make_the_file.Goals as goal
 
 pub returns : goal.returns
-returns c = λ o e b s r. room_law o e b s r
+returns c = record { made = λ o e b s r. room_law o e b s r; sound = λ o e b s r. order_law o e b s r }
