@@ -12,7 +12,7 @@ use Rattle.container_model.specs.Chunk.{read, chunks}
 use Rattle.mov_model.specs.Support.{Supported}
 use Rattle.mov_model.specs.Edited.{Edited, fields}
 use Rattle.mov_model.proofs.Fields.{edit_law}
-use Rattle.mov_model.proofs.Rows.{m15, n15, set, big, fine_m15, row_15a, whole_15a}
+use Rattle.mov_model.proofs.Rows.{reel, reel_named, set, big, fine_reel, named_in_place, not_too_large}
 use Rattle.mov_model.proofs.Why.{none_supported}
 
 abbrev all_below : List ℕ → Bool
@@ -24,12 +24,12 @@ are_bytes [] e i = omega arith
 are_bytes (x ∷ b) e zero = ltb-true _ _ (and_parts (ltb x 256) (all_below b) e).0
 are_bytes (x ∷ b) e (suc i) = are_bytes b (and_parts (ltb x 256) (all_below b) e).1 i
 
-supported : Supported m15
-supported = none_supported m15 fine_m15
+supported : Supported reel
+supported = none_supported reel fine_reel
 
-keeps_rules : broken Mov (fields m15) (set big) Base ≡ None
+keeps_rules : broken Mov (fields reel) (set big) Base ≡ None
 unfolding read chunks is_utf8 chars encode
 keeps_rules = refl
 
-pub edited : Edited m15 (set big) n15
-edited = subst (Edited m15 (set big)) row_15a (edit_law m15 (set big) (are_bytes m15 refl) supported keeps_rules whole_15a)
+pub edited : Edited reel (set big) reel_named
+edited = subst (Edited reel (set big)) named_in_place (edit_law reel (set big) (are_bytes reel refl) supported keeps_rules not_too_large)
