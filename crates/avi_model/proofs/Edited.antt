@@ -1,6 +1,6 @@
 -- The law: for every edit that keeps the rules, after which nothing is too large, the new file is the old one edited.
-use Rattle.std.proofs.Common.{◌≡◌, ℕ, suc, ◌^◌, ◌<◌, ◌≤◌, Bool, true, false, cond, List, [], ◌∷◌, ◌++◌, length, map, Option, Some, None, refl, sym, ap, subst, ◌∙◌, arith}
-use Rattle.std.specs.Prelude.{◌||◌, option_map}
+use Rattle.std.proofs.Common.{◌≡◌, ℕ, suc, ◌^◌, ◌<◌, ◌≤◌, Bool, true, false, cond, List, [], ◌∷◌, ◌++◌, length, map, Option, Some, None, refl, sym, ap, subst, ◌∙◌, arith, inl, inr}
+use Rattle.std.specs.Prelude.{◌||◌, ◌⊎◌, ◌-◌, option_map}
 use Rattle.std.specs.Str.{bytes_eq}
 use Rattle.std.specs.List.{filter_map, list_any, AllByRecursion}
 use Rattle.me_bytes.specs.Bytes.{IsBytes}
@@ -209,3 +209,9 @@ spliced_law o e bytes s =
           ∙ ap (λ (k : ℕ). with_size k (splice (renumbered how o) (edit_cuts (avi_of o) e))) size,
       ascends o bytes s how e,
     )
+
+-- The new file has a length that can be told, and its first form too.
+pub length_law : (o : List ℕ) (e : Items) → too_large_by o e ≡ None → (e ≡ []) ⊎ ((length (edited_file o e) ≤ 2 ^ 63 - 1) × (length (inner (new_avi o e).children (new_avi o e).left) ≤ 2 ^ 32 - 1))
+unfolding laid_file
+length_law o [] none = inl refl
+length_law o (i ∷ e) none = let fit = fits_of o i e none in inr (fit.file_short, fit.form_short)

@@ -3,7 +3,7 @@
 //! 1.0) and of AVI, the indexes those of OpenDML (AVI File Format Extensions 1.02). It knows no device and no code.
 #![tactic(auto)]
 
-ghost use Rattle.std.specs.Prelude.{◌≡◌, ℕ, List, length, take, None};
+ghost use Rattle.std.specs.Prelude.{◌≡◌, ◌≤◌, ◌-◌, ◌^◌, ◌⊎◌, ℕ, List, [], length, take, None};
 ghost use Rattle.container_model.specs.Splice.{splice, Ascend};
 ghost use Rattle.me_bytes.specs.Bytes.{IsBytes};
 ghost use Rattle.part_tree.specs.declared.field.EditItem.{EditItem};
@@ -16,7 +16,7 @@ ghost use Rattle.avi_model.specs.Index.{move, renumbered};
 ghost use Rattle.avi_model.specs.Support.{Supported};
 ghost use Rattle.avi_model.specs.Why.{why};
 ghost use Rattle.avi_model.specs.NewFile.{Items, edit_cuts, with_size, moves, laid_file};
-ghost use Rattle.avi_model.specs.Edited.{Edited, fields, new_file};
+ghost use Rattle.avi_model.specs.Edited.{Edited, changes, fields, new_file};
 ghost use Rattle.avi_model.specs.Large.{too_large, new_avi};
 ghost use Rattle.avi_model.specs.Room.{Room, patches};
 
@@ -45,4 +45,11 @@ pub fn new_is_spliced()
 /// Where an edit has room, its patches laid over the old file, at the new file's length, make the new file.
 pub fn patches_make_new()
     ensures { (o : List ℕ) (e : List EditItem) → IsBytes o → Supported o → Room o e → take (length (new_file o e)) (patched (patches o e) o) ≡ new_file o e }
+{}
+
+/// Where something is edited and nothing is too large, the new file has at most 2^63-1 bytes, and the body of its first
+/// form at most 2^32-1.
+pub fn new_is_no_larger()
+    ensures { (o : List ℕ) (e : List EditItem) → too_large o e ≡ None
+        → (changes o e ≡ []) ⊎ ((length (new_file o e) ≤ 2 ^ 63 - 1) × (length (inner (new_avi o (changes o e)).children (new_avi o (changes o e)).left) ≤ 2 ^ 32 - 1)) }
 {}
