@@ -5,7 +5,8 @@ use Rattle.std.specs.List.{flat_map}
 use Rattle.std.proofs.lemmas.Bool.{and_parts, leb-true, ltb-true}
 use Rattle.container_model.specs.Stood.{Stood, only}
 use Rattle.container_model.proofs.Codec.{IsBytes}
-use Rattle.avi_model.specs.Avi.{avi_of, kids, others_at, is_movi, Span, body_span, first_span, first_movi}
+use Rattle.part_tree.specs.declared.names.Span.{Span}
+use Rattle.avi_model.specs.Avi.{avi_of, kids, others_at, is_movi, body_span, first_span, first_movi}
 use Rattle.avi_model.specs.Index.{Table, is_super, entry_offset, entry_length, entry_second, has_second, named_by, streams, indexes, within}
 use Rattle.avi_model.specs.Support.{Supported, SoundIndex, is_index_kind, is_standard_kind, movis, second_lies}
 use Rattle.avi_model.proofs.Entries.{standard_index}

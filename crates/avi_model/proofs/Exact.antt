@@ -5,7 +5,8 @@ use Rattle.std.specs.List.{flat_map, AllByRecursion}
 use Rattle.std.proofs.lemmas.Bool.{ltb-false, le-ltb, eqb-false, ne_eqb}
 use Rattle.container_model.specs.Chunk.{spell_all}
 use Rattle.container_model.specs.Stood.{stood}
-use Rattle.avi_model.specs.Avi.{forms, avi_of, hdrls, Span, first_movi}
+use Rattle.part_tree.specs.declared.names.Span.{Span}
+use Rattle.avi_model.specs.Avi.{forms, avi_of, hdrls, first_movi}
 use Rattle.avi_model.specs.Index.{Table, is_super, entries, super_places, streams, named, indexes, entry_offset, entry_length, index_base, row_offset, row_length, Base, from_start, from_movi, base, old_rows, olds, within, is_head, misses}
 use Rattle.avi_model.specs.Support.{begins, movis, part_limit, parts, SoundIndex, is_index_kind, is_standard_kind, has_header, has_entries, in_one, movi_spans, size_at, SoundPlace, by_place, Apart, entry_lies, SoundEntry, SoundEntries, is_based, SoundRow, SoundRows, Supported}
 use Rattle.avi_model.specs.Reading.{Step, end_at, form_steps, reading, parts_met}
@@ -120,7 +121,7 @@ module _ (b : List ℕ) where
   abbrev forms_end : List Step
   forms_end = end_at (length (spell_all (forms b).chunks)) (forms b).stop ∷ []
 
-  reading_count : parts_met (reading b) ≡ parts (avi_of b)
+  pub reading_count : parts_met (reading b) ≡ parts (avi_of b)
   reading_count = omega (arith, parts_append (form_steps (stood 0 (forms b).chunks)) forms_end, forms_count (forms b).chunks (forms b).left)
 
   abbrev old_all : List Test

@@ -12,7 +12,8 @@ use Rattle.container_model.proofs.Deep.{alike_len}
 use Rattle.container_model.proofs.Stay.{Orders, Stays, rigid_part}
 use Rattle.container_model.proofs.Copied.{Moves_as_one}
 use Rattle.container_model.proofs.Stood.{Spelled, carried_to, renew_at}
-use Rattle.avi_model.specs.Avi.{Avi, avi_of, spell_avi, inner, Span, first_span, first_movi, top, is_movi, stream_indexes, old_indexes, others_at, kids}
+use Rattle.part_tree.specs.declared.names.Span.{Span}
+use Rattle.avi_model.specs.Avi.{Avi, avi_of, spell_avi, inner, first_span, first_movi, top, is_movi, stream_indexes, old_indexes, others_at, kids}
 use Rattle.avi_model.specs.Index.{table_of, move, writes, write_old, old_body, streams, indexes, olds, base, old_rows, count16, old_row}
 use Rattle.avi_model.specs.Pieces.{pieces}
 use Rattle.avi_model.specs.NewFile.{Items, laid, edit_cuts, laid_file, new_children}

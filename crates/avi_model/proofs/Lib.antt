@@ -42,3 +42,5 @@ pub mod Fields
 pub mod Blank
 pub mod Again
 pub mod Grows
+pub mod Stands
+pub mod Map

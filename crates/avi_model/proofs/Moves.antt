@@ -11,7 +11,8 @@ use Rattle.container_model.specs.Written.{slice, Write, written}
 use Rattle.container_model.proofs.Codec.{IsBytes}
 use Rattle.container_model.proofs.Written.{length-written, slice_clear, length-slice}
 use Rattle.container_model.proofs.Stay.{Orders, Stays, stays_part, rigid_part}
-use Rattle.avi_model.specs.Avi.{Avi, avi_of, inner, has_id, kids, top, others_at, strls, stream_indexes, old_indexes, is_movi, essence, Span, body_span, first_span, first_movi}
+use Rattle.part_tree.specs.declared.names.Span.{Span}
+use Rattle.avi_model.specs.Avi.{Avi, avi_of, inner, has_id, kids, top, others_at, strls, stream_indexes, old_indexes, is_movi, essence, body_span, first_span, first_movi}
 use Rattle.avi_model.specs.Index.{Table, table_of, move, writes, is_super, width, entries, super_place, super_places, index_base, entry_offset, entry_length, entry_second, has_second, first_counted, named, named_by, named_in, streams, indexes, Base, from_start, from_movi, base, old_rows, olds, row_offset, row_length, within, is_head, misses}
 use Rattle.avi_model.specs.Support.{SoundIndex, is_index_kind, is_standard_kind, movis, in_one, movi_spans, size_at, SoundPlace, second_lies, SoundEntry, SoundEntries, SoundRow, SoundRows, Supported}
 use Rattle.avi_model.specs.NewFile.{Items, new_cells, new_children, edit_cuts, laid_file}

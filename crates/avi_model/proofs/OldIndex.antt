@@ -12,7 +12,8 @@ use Rattle.container_model.proofs.Codec.{IsBytes}
 use Rattle.container_model.proofs.Written.{Misses, slice_clear}
 use Rattle.container_model.proofs.Stay.{Orders, Rigid, rigid_part}
 use Rattle.carrier_model.specs.Info.{SetsInfo}
-use Rattle.avi_model.specs.Avi.{Avi, avi_of, inner, Span, body_span, first_movi}
+use Rattle.part_tree.specs.declared.names.Span.{Span}
+use Rattle.avi_model.specs.Avi.{Avi, avi_of, inner, body_span, first_movi}
 use Rattle.avi_model.specs.Index.{Table, How, move, writes, indexes, Base, from_start, from_movi, base_at, base_of, base_in, base, old_rows, old_row, old_by, old_body, olds, row_id, row_offset, row_length, decides, put32, within, is_head, misses}
 use Rattle.avi_model.specs.Support.{stands_at, based_by, is_based, SoundRow, SoundRows, Supported}
 use Rattle.avi_model.specs.NewFile.{Items, new_children, edit_cuts, laid_file}

@@ -10,7 +10,8 @@ use Rattle.std.proofs.lemmas.Bool.{eqb-false, ne_eqb, lt-ltb, ltb-true, le-leb, 
 use Rattle.container_model.specs.Written.{slice, rows}
 use Rattle.container_model.proofs.Written.{Holds, rows_map, length-map_rows}
 use Rattle.container_model.proofs.Stay.{Orders, Rigid, Stays, rigid_part, stays_part, lt_moves, eq_moves, end_moves}
-use Rattle.avi_model.specs.Avi.{Span, avi_of, first_movi}
+use Rattle.part_tree.specs.declared.names.Span.{Span}
+use Rattle.avi_model.specs.Avi.{avi_of, first_movi}
 use Rattle.avi_model.specs.Index.{le32_at, put32, put64, Table, How, move, is_super, entries, super_place, used_place, place_by, super_by, super_row, entry_offset, entry_length, entry_second, has_second, index_base, second_by, entry_by, entry_row, first_counted, standard_by, index_by, index_body, row_id, row_flags, row_offset, row_length, Base, from_start, from_movi, decides, base_at, base_of, old_by, old_row, within, is_head, misses, ordinal, count16, old_rows, old_body, indexes, olds, base_in, base}
 use Rattle.avi_model.specs.Pieces.{Found, found_by, counted_by, old_found, super, super_found_by, super_found, Standard, uncounted, standard, second_found, entry_found_by, entry_found, Finds, supers, finds_by, finds, Pieces, pieces}
 use Rattle.avi_model.proofs.Numbers.{slice_put32, slice_put64, le32_put, le64_put, length-put32, Whole, super_entries, standard_entries, standard_base, index_length, index_is, old_slices, old_keeps}

@@ -1,5 +1,5 @@
 -- Worked files: what an edit makes of them, and why files are refused.
-use Rattle.std.proofs.Common.{◌≡◌, ℕ, ◌+◌, ◌^◌, List, [], ◌∷◌, ◌++◌, Some, None, refl}
+use Rattle.std.proofs.Common.{◌≡◌, ℕ, ◌+◌, ◌^◌, List, [], ◌∷◌, ◌++◌, map, Some, None, refl}
 use Rattle.std.specs.Prelude.{codes, replicate}
 use Rattle.std.specs.Int.{w16, w32, w64, to_le_bytes}
 use Rattle.std.specs.Str.{chars, is_utf8}
@@ -10,6 +10,9 @@ use Rattle.part_tree.specs.declared.field.FieldName.TheVariants.{Info}
 use Rattle.part_tree.specs.declared.field.RuleSet.TheVariants.{Base}
 use Rattle.part_tree.specs.declared.names.Kind.TheVariants.{Avi}
 use Rattle.part_tree.specs.declared.why.Why.TheVariants.{IndexAstray, IndexBase, IndexKind, IndexOverlap, IndexPlace, IndexShort, NoHdrl, NoMovi, Truncated, UnknownKind}
+use Rattle.part_tree.specs.declared.part.Part.{Part}
+use Rattle.part_tree.specs.declared.part.Role.{Role}
+use Rattle.part_tree.specs.declared.part.Role.TheVariants.{Opaque, Tables, Essence}
 use Rattle.field_model.specs.Broken.{broken}
 use Rattle.container_model.specs.Chunk.{read, chunks}
 use Rattle.container_model.specs.Units.{units}
@@ -17,6 +20,7 @@ use Rattle.avi_model.specs.Why.{why}
 use Rattle.avi_model.specs.NewFile.{laid_file}
 use Rattle.avi_model.specs.Edited.{fields, new_file}
 use Rattle.avi_model.specs.Large.{too_large}
+use Rattle.avi_model.specs.Map.{parts_of, essence_bytes, counted_entries}
 
 -- ---- how the files are spelled
 
@@ -161,6 +165,35 @@ mixed_row : new_file (form 516 (streams_hdrl 256 412 296 372 ++ (streams_movi 22
     ≡ form 540 (streams_hdrl 280 436 320 396 ++ (list_hi ++ (streams_movi 248 264 364 380 ++ movi_entries)))
 unfolding laid_file units chunks read
 mixed_row = refl
+
+-- ---- what is told
+
+told_frames_row : (essence_bytes (frames_file 4 20) ≡ 32) × (counted_entries (frames_file 4 20) ≡ 2)
+unfolding chunks read
+told_frames_row = (refl, refl)
+
+told_uncounted_row : counted_entries (frames_file 4 4000) ≡ 1
+unfolding chunks read
+told_uncounted_row = refl
+
+told_open_dml_row : (essence_bytes (two_forms (super_index 0 3 320 404) (field_index 304 8 12) (field_index 388 8 12)) ≡ 120) × (counted_entries (two_forms (super_index 0 3 320 404) (field_index 304 8 12) (field_index 388 8 12)) ≡ 2)
+unfolding chunks read
+told_open_dml_row = (refl, refl)
+
+-- the place, the end and the role of a part
+abbrev told : Part → ℕ × (ℕ × Role)
+told p = (p.at, (p.next, p.role))
+
+-- hdrl with avih, strl, strh, strf and indx; movi; and movi and a last index of the further form
+told_parts_row : map told (parts_of (two_forms (super_index 0 3 320 404) (field_index 304 8 12) (field_index 388 8 12)))
+    ≡ (12, (292, Opaque)) ∷ (24, (88, Opaque)) ∷ (88, (292, Opaque)) ∷ (100, (164, Opaque)) ∷ (164, (212, Opaque)) ∷ (212, (292, Tables)) ∷ (292, (364, Essence)) ∷ (376, (448, Essence)) ∷ []
+unfolding chunks read
+told_parts_row = refl
+
+told_roles_row : map told (parts_of (form 312 (hdrl ++ (list_hi ++ (movi ++ two_entries 4 20)))))
+    ≡ (12, (212, Opaque)) ∷ (24, (88, Opaque)) ∷ (88, (212, Opaque)) ∷ (100, (164, Opaque)) ∷ (164, (212, Opaque)) ∷ (212, (236, Rattle.part_tree.specs.declared.part.Role.TheVariants.Info)) ∷ (224, (236, Opaque)) ∷ (236, (280, Essence)) ∷ (280, (320, Tables)) ∷ []
+unfolding chunks read
+told_roles_row = refl
 
 -- ---- the premises of the law are met
 

@@ -11,7 +11,8 @@ use Rattle.container_model.specs.Written.{Write}
 use Rattle.container_model.proofs.Codec.{IsBytes}
 use Rattle.container_model.proofs.Written.{Misses, In, Alone, Holds}
 use Rattle.carrier_model.specs.Info.{is_type, list_run}
-use Rattle.avi_model.specs.Avi.{forms, Avi, avi_of, has_id, kids, top, others_at, hdrls, strls, stream_indexes, old_indexes, is_movi, essence, Span, body_span, first_movi}
+use Rattle.part_tree.specs.declared.names.Span.{Span}
+use Rattle.avi_model.specs.Avi.{forms, Avi, avi_of, has_id, kids, top, others_at, hdrls, strls, stream_indexes, old_indexes, is_movi, essence, body_span, first_movi}
 use Rattle.avi_model.specs.Index.{Table, table_of, How, move, is_super, width, used, entries, super_places, index_body, named, named_in, named_by, streams, indexes, Base, old_body, count16, olds, base, write_index, write_old, writes, within, misses}
 use Rattle.avi_model.specs.Support.{ListEnds, infos, SoundIndex, is_index_kind, is_standard_kind, in_one, movi_spans, size_at, SoundPlace, put_by_place, by_place, Apart, Supported}
 use Rattle.avi_model.proofs.Read.{others_place}

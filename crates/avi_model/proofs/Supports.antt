@@ -14,7 +14,8 @@ use Rattle.container_model.proofs.Written.{length-written, slice_clear, misses_i
 use Rattle.container_model.proofs.Stay.{Orders, Rigid, stays_part, rigid_part, lt_moves, end_moves}
 use Rattle.container_model.proofs.Stood.{carried_to}
 use Rattle.carrier_model.specs.Info.{SetsInfo}
-use Rattle.avi_model.specs.Avi.{Avi, avi_of, inner, Span, body_span, essence}
+use Rattle.part_tree.specs.declared.names.Span.{Span}
+use Rattle.avi_model.specs.Avi.{Avi, avi_of, inner, body_span, essence}
 use Rattle.avi_model.specs.Index.{Table, How, move, writes, is_super, width, used, entries, super_place, super_places, super_row, super_body, index_base, entry_offset, entry_length, entry_second, has_second, entry_row, entry_by, second_by, first_counted, standard_with, standard_by, index_by, index_body, named, streams, indexes, Base, from_start, from_movi, base, old_rows, old_row, old_by, old_body, olds, row_id, row_flags, row_offset, row_length, decides, put32, within, is_head, misses}
 use Rattle.avi_model.specs.Support.{kind, is_index_kind, is_standard_kind, has_header, has_entries, SoundIndex, in_one, movi_spans, size_at, SoundPlace, put_by_place, by_place, Apart, second_lies, entry_lies, SoundEntry, SoundEntries, stands_at, based_by, is_based, SoundRow, SoundRows, Supported}
 use Rattle.avi_model.specs.NewFile.{Items, new_children, edit_cuts, laid_file}

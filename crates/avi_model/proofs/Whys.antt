@@ -6,7 +6,7 @@ use Rattle.std.proofs.lemmas.Bool.{ltb-false, le-ltb, leb-false, lt-leb}
 use Rattle.container_model.specs.Chunk.{Chunk, Stop, ends, bad_header, passes, out_of_turns, read, chunks, spell}
 use Rattle.container_model.specs.Stood.{Stood, bare, stood, only, first_of}
 use Rattle.carrier_model.specs.Info.{is_type, list_run}
-use Rattle.avi_model.specs.Avi.{forms, Avi, avi_of, form_of, kids, top, others_at, hdrls, strls, Span, first_movi}
+use Rattle.avi_model.specs.Avi.{forms, Avi, avi_of, form_of, kids, top, others_at, hdrls, strls, first_movi}
 use Rattle.avi_model.specs.Support.{infos, ListEnds, opened, count_kids, parts, part_limit, list_limit}
 use Rattle.avi_model.specs.Reading.{Step, form_at, part_at, end_at, list_end, part_of, flat_steps, stream_steps, hdrl_steps, inside_steps, is_info, top_steps, first_steps, further_steps, form_steps, parts_met}
 use Rattle.avi_model.specs.Why.{Test, first, ended, steps_tests}
@@ -106,7 +106,7 @@ pub parts_append : (a b : List Step) → parts_met (a ++ b) ≡ parts_met a + pa
 parts_append [] b = omega arith
 parts_append (s ∷ a) b = omega (arith, parts_append a b)
 
-kids_count : (xs : List Stood) → parts_met (flat_map part_of xs) ≡ length xs
+pub kids_count : (xs : List Stood) → parts_met (flat_map part_of xs) ≡ length xs
 kids_count [] = refl
 kids_count (x ∷ xs) = omega (arith, kids_count xs)
 
@@ -114,7 +114,7 @@ kids_fine : (xs : List Stood) → AllFine (flat_map part_of xs)
 kids_fine [] = tt
 kids_fine (x ∷ xs) = ((λ e. absurd cc), kids_fine xs)
 
-stood_length : (at : ℕ) (cs : List Chunk) → length (stood at cs) ≡ length cs
+pub stood_length : (at : ℕ) (cs : List Chunk) → length (stood at cs) ≡ length cs
 stood_length at [] = refl
 stood_length at (c ∷ cs) = ap suc (stood_length (at + length (spell c)) cs)
 
@@ -129,7 +129,7 @@ flat_ends x h = (all_right StepFine (flat_map part_of (kids x)) (list_end x ∷ 
 ends_flat : (x : Stood) → ListEnds x → AllFine (flat_steps x)
 ends_flat x h = all_both StepFine (flat_map part_of (kids x)) (list_end x ∷ []) (kids_fine (kids x)) (h, tt)
 
-flat_count : (x : Stood) → parts_met (flat_steps x) ≡ length (list_run x.chunk).chunks
+pub flat_count : (x : Stood) → parts_met (flat_steps x) ≡ length (list_run x.chunk).chunks
 flat_count x = omega (arith, parts_append (flat_map part_of (kids x)) (list_end x ∷ []), kids_count (kids x), stood_length (x.at + 12) (list_run x.chunk).chunks)
 
 -- the chunks of hdrl

@@ -4,6 +4,7 @@ use Rattle.std.specs.Prelude.{ℕ, ◌+◌, nat_le, List, [], ◌∷◌, ◌++�
 use Rattle.std.specs.Str.{bytes_eq}
 use Rattle.std.specs.List.{flat_map}
 use Rattle.std.specs.Int.{w32, from_le_bytes}
+use Rattle.part_tree.specs.declared.names.Span.{Span}
 use Rattle.container_model.specs.Chunk.{riff, Chunk, spell, spell_all, Run, Header, too_short, full_header, chunks}
 use Rattle.container_model.specs.Sizes.{plain, riff_front}
 use Rattle.container_model.specs.Stood.{Stood, stood, only, first_of}
@@ -113,11 +114,6 @@ stream_indexes a = only (has_id (codes "indx")) (flat_map kids (strls a))
 -- the first `idx1`
 abbrev pub old_indexes : Avi → List Stood
 old_indexes a = first_of (only (has_id (codes "idx1")) (top a))
-
--- a range of places
-pub record Span : Type 0 where
-  pub at : ℕ
-  pub len : ℕ
 
 -- where the body of a chunk stands
 abbrev pub body_span : Stood → Span

@@ -6,7 +6,8 @@ use Rattle.std.specs.List.{flat_map}
 use Rattle.std.specs.Int.{w16, w32, w64, to_le_bytes, from_le_bytes}
 use Rattle.container_model.specs.Written.{slice, Write, written, rows, map_rows}
 use Rattle.container_model.specs.Stood.{Stood}
-use Rattle.avi_model.specs.Avi.{avi_of, Span, stream_indexes, old_indexes, first_movi}
+use Rattle.part_tree.specs.declared.names.Span.{Span}
+use Rattle.avi_model.specs.Avi.{avi_of, stream_indexes, old_indexes, first_movi}
 
 -- ---- numbers in bytes
 

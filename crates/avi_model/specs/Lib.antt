@@ -8,4 +8,5 @@ pub mod NewFile
 pub mod Kept
 pub mod Edited
 pub mod Large
+pub mod Map
 pub mod Room

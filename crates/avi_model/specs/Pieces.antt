@@ -1,7 +1,8 @@
 -- What the tables of a file find: the chunks that idx1 names, and the index chunks and bytes that OpenDML indexes name.
 use Rattle.std.specs.Prelude.{ℕ, ◌+◌, ◌-◌, ◌==◌, List, map, Bool, true, false, not, ◌&&◌, ◌||◌, Option, Some, None}
 use Rattle.container_model.specs.Written.{slice}
-use Rattle.avi_model.specs.Avi.{avi_of, Span, first_movi}
+use Rattle.part_tree.specs.declared.names.Span.{Span}
+use Rattle.avi_model.specs.Avi.{avi_of, first_movi}
 use Rattle.avi_model.specs.Index.{le32_at, Table, is_super, entries, super_place, entry_offset, entry_length, entry_second, has_second, index_base, indexes, row_id, row_flags, row_offset, row_length, Base, from_start, from_movi, row_place, base, old_rows, olds, within, is_head, misses, ordinal}
 
 -- what an entry of idx1 finds: nothing where it is not counted; its identifier, its flags, and an index chunk by its number, or its bytes

@@ -8,7 +8,8 @@ use Rattle.container_model.specs.Chunk.{ends}
 use Rattle.container_model.specs.Stood.{Stood, only}
 use Rattle.container_model.specs.Written.{slice}
 use Rattle.carrier_model.specs.Info.{is_type, list_run}
-use Rattle.avi_model.specs.Avi.{forms, Avi, avi_of, top, others_at, hdrls, strls, is_movi, essence, Span, body_span, first_movi}
+use Rattle.part_tree.specs.declared.names.Span.{Span}
+use Rattle.avi_model.specs.Avi.{forms, Avi, avi_of, top, others_at, hdrls, strls, is_movi, essence, body_span, first_movi}
 use Rattle.avi_model.specs.Index.{Table, is_super, width, used, entries, super_places, streams, named, indexes, entry_offset, entry_length, entry_second, has_second, index_base, row_id, row_offset, row_length, decides, Base, from_start, from_movi, base, old_rows, olds, within, is_head, misses}
 
 -- ---- chunks

@@ -5,7 +5,8 @@ use Rattle.part_tree.specs.Letters.{four}
 use Rattle.part_tree.specs.declared.why.Why.{Why}
 use Rattle.part_tree.specs.declared.why.Why.TheVariants.{CarrierBig, IndexAstray, IndexBase, IndexKind, IndexOverlap, IndexPlace, IndexShort, NoHdrl, NoMovi, TooManyParts, Truncated, UnknownKind}
 use Rattle.container_model.specs.Chunk.{Stop, ends}
-use Rattle.avi_model.specs.Avi.{Avi, avi_of, Span, first_movi, hdrls}
+use Rattle.part_tree.specs.declared.names.Span.{Span}
+use Rattle.avi_model.specs.Avi.{Avi, avi_of, first_movi, hdrls}
 use Rattle.avi_model.specs.Index.{Table, is_super, entries, super_places, streams, named, indexes, entry_offset, entry_length, index_base, row_offset, row_length, Base, from_start, from_movi, base, old_rows, olds, within, is_head, misses}
 use Rattle.avi_model.specs.Support.{begins, movis, part_limit, list_limit, is_index_kind, is_standard_kind, has_header, has_entries, in_one, movi_spans, size_at, by_place, entry_lies, is_based}
 use Rattle.avi_model.specs.Reading.{Step, form_at, part_at, end_at, reading, parts_met}

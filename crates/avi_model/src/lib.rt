@@ -3,7 +3,7 @@
 //! 1.0) and of AVI, the indexes those of OpenDML (AVI File Format Extensions 1.02). It knows no device and no code.
 #![tactic(auto)]
 
-ghost use Rattle.std.specs.Prelude.{◌≡◌, ◌≤◌, ◌-◌, ◌^◌, ◌⊎◌, ℕ, List, [], length, take, None};
+ghost use Rattle.std.specs.Prelude.{◌≡◌, ◌≤◌, ◌-◌, ◌^◌, ◌⊎◌, ℕ, List, [], length, map, take, drop, None};
 ghost use Rattle.container_model.specs.Splice.{splice, Ascend};
 ghost use Rattle.me_bytes.specs.Bytes.{IsBytes};
 ghost use Rattle.part_tree.specs.declared.field.EditItem.{EditItem};
@@ -11,14 +11,15 @@ ghost use Rattle.part_tree.specs.declared.field.RuleSet.TheVariants.{Base};
 ghost use Rattle.part_tree.specs.declared.names.Kind.TheVariants.{Avi};
 ghost use Rattle.field_model.specs.Broken.{broken};
 ghost use Rattle.carrier_model.specs.Room.{patched};
-ghost use Rattle.avi_model.specs.Avi.{avi_of, inner};
-ghost use Rattle.avi_model.specs.Index.{move, renumbered};
-ghost use Rattle.avi_model.specs.Support.{Supported};
+ghost use Rattle.avi_model.specs.Avi.{avi_of, inner, essence};
+ghost use Rattle.avi_model.specs.Index.{olds, move, renumbered};
+ghost use Rattle.avi_model.specs.Support.{Supported, parts};
 ghost use Rattle.avi_model.specs.Why.{why};
 ghost use Rattle.avi_model.specs.NewFile.{Items, edit_cuts, with_size, moves, laid_file};
 ghost use Rattle.avi_model.specs.Edited.{Edited, changes, fields, new_file};
 ghost use Rattle.avi_model.specs.Large.{too_large, new_avi};
 ghost use Rattle.avi_model.specs.Room.{Room, patches};
+ghost use Rattle.avi_model.specs.Map.{parts_of, bytes_in, essence_spans, table_span, supers, standards};
 
 use part_tree as _;
 
@@ -52,4 +53,14 @@ pub fn patches_make_new()
 pub fn new_is_no_larger()
     ensures { (o : List ℕ) (e : List EditItem) → too_large o e ≡ None
         → (changes o e ≡ []) ⊎ ((length (new_file o e) ≤ 2 ^ 63 - 1) × (length (inner (new_avi o (changes o e)).children (new_avi o (changes o e)).left) ≤ 2 ^ 32 - 1)) }
+{}
+
+/// A reader tells as many parts of a file as are counted, and the spans of its essence, of its super indexes, of its
+/// standard indexes and of `idx1` hold their bodies.
+pub fn what_is_told()
+    ensures parts { (b : List ℕ) → length (parts_of b) ≡ parts (avi_of b) }
+    ensures essence { (b : List ℕ) → IsBytes b → Supported b → map (bytes_in b) (essence_spans b) ≡ map (λ x. x.chunk.body) (essence (avi_of b)) }
+    ensures supers { (b : List ℕ) → IsBytes b → Supported b → map (bytes_in b) (map table_span (supers b)) ≡ map (λ t. t.body) (supers b) }
+    ensures standards { (b : List ℕ) → IsBytes b → Supported b → map (bytes_in b) (map table_span (standards b)) ≡ map (λ t. t.body) (standards b) }
+    ensures olds { (b : List ℕ) → IsBytes b → Supported b → map (bytes_in b) (map table_span (olds b)) ≡ map (λ t. t.body) (olds b) }
 {}
