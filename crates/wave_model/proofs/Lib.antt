@@ -19,3 +19,4 @@ pub mod Spans
 pub mod Room
 pub mod Map
 pub mod Example
+pub mod Names

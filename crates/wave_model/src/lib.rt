@@ -3,11 +3,14 @@
 #![tactic(auto)]
 
 ghost use Rattle.std.specs.Prelude.{◌≡◌, ◌≤◌, ◌-◌, ◌^◌, ◌↔◌, ◌⊎◌, ℕ, List, [], ◌∷◌, None, length, take, drop};
+ghost use Rattle.std.specs.List.{AllByRecursion};
 ghost use Rattle.part_tree.specs.declared.field.EditItem.{EditItem};
+ghost use Rattle.part_tree.specs.declared.field.FieldName.{FieldName};
 ghost use Rattle.part_tree.specs.declared.field.RuleSet.TheVariants.{Base};
+ghost use Rattle.part_tree.specs.Names.{IsFieldName};
 ghost use Rattle.me_bytes.specs.Bytes.{IsBytes};
 ghost use Rattle.field_model.specs.Broken.{broken};
-ghost use Rattle.field_model.specs.Update.{effective};
+ghost use Rattle.field_model.specs.Update.{effective, update};
 ghost use Rattle.container_model.specs.Splice.{splice, Ascend};
 ghost use Rattle.wave_model.specs.Wave.{kind_of, wave_of};
 ghost use Rattle.wave_model.specs.Fields.{fields};
@@ -24,6 +27,11 @@ ghost use Rattle.carrier_model.specs.Room.{patched};
 /// blocks of sound are the same; a `JUNK` directly after `WAVE` stays; and an edit without effect changes nothing.
 pub fn new_file_is_edited()
     ensures { (o : List ℕ) (e : List EditItem) → IsBytes o → Supported o → broken (kind_of o) (fields o) e Base ≡ None → too_large o e ≡ None → Edited o e (new_file o e) }
+{}
+
+/// Where every item of the edit names a field, the new file's fields are the old ones updated, at every name.
+pub fn fields_are_updated()
+    ensures { (o : List ℕ) (e : List EditItem) → IsBytes o → Supported o → broken (kind_of o) (fields o) e Base ≡ None → too_large o e ≡ None → AllByRecursion (λ i. IsFieldName i.name) e → (name : FieldName) → fields (new_file o e) name ≡ update (fields o) e name }
 {}
 
 /// An edit of which no item has an effect gives the same file.
