@@ -1,9 +1,9 @@
 -- Where an edit has room, every table stands as it was, and the patches laid over the old file at the new length make the new one.
-use Rattle.std.proofs.Common.{◌≡◌, ℕ, ◌+◌, ◌-◌, ◌^◌, ◌<◌, ◌≤◌, Bool, true, false, eqb, ltb, leb, List, [], ◌∷◌, length, take, Option, Some, None, refl, sym, ap, subst, ◌∙◌, arith, inl, inr}
-use Rattle.std.specs.Prelude.{◌⊎◌, ◌&&◌, codes}
+use Rattle.std.proofs.Common.{◌≡◌, ℕ, ◌+◌, ◌-◌, ◌^◌, ◌<◌, ◌≤◌, Bool, true, false, eqb, ltb, List, [], ◌∷◌, length, take, Option, Some, None, refl, sym, ap, subst, ◌∙◌, arith, inl, inr}
+use Rattle.std.specs.Prelude.{◌⊎◌, ◌&&◌, codes, nat_le}
 use Rattle.std.specs.Int.{w32, to_le_bytes}
 use Rattle.std.specs.List.{flat_map, AllByRecursion}
-use Rattle.std.proofs.lemmas.Bool.{and_parts, eqb-false, ltb-true}
+use Rattle.std.proofs.lemmas.Bool.{and_parts, eqb-false, ltb-true, leb-true}
 use Rattle.std.proofs.lemmas.List.{take_all}
 use Rattle.part_tree.specs.declared.field.EditItem.{EditItem}
 use Rattle.container_model.specs.Splice.{shift}
@@ -11,13 +11,14 @@ use Rattle.container_model.specs.Stood.{Stood, only}
 use Rattle.container_model.specs.Units.{shut, units}
 use Rattle.container_model.specs.Written.{Write}
 use Rattle.container_model.proofs.Codec.{IsBytes}
-use Rattle.carrier_model.specs.Room.{units_fit, patched}
+use Rattle.carrier_model.specs.Room.{units_fit, patched, total}
+use Rattle.carrier_model.specs.Order.{InOrder, InPatch}
 use Rattle.avi_model.specs.Avi.{Avi, avi_of, inner, form_of, behind, spell_avi, has_id, kids, top, others_at, hdrls, strls, stream_indexes, old_indexes, is_movi, essence}
 use Rattle.avi_model.specs.Index.{Table, table_of, How, move, writes, renumbered, is_super, entries, super_place, index_base, entry_offset, entry_length, entry_second, has_second, first_counted, standard_by, index_by, index_body, named, streams, indexes, Base, from_start, base, old_rows, old_body, olds, row_offset, row_length, write_index, write_old}
 use Rattle.avi_model.specs.Support.{Supported, SoundIndex, SoundEntries, SoundEntry, is_index_kind, in_one, movi_spans, size_at, second_lies, SoundRows}
 use Rattle.avi_model.specs.NewFile.{Items, ends_file, new_cells, laid, edit_cuts, laid_file, edited_file}
 use Rattle.avi_model.specs.Edited.{changes, new_file}
-use Rattle.avi_model.specs.Room.{patches_of, patches, Room}
+use Rattle.avi_model.specs.Room.{pieces_of, patches_of, patches_by, patches, Room, SoundPatches}
 use Rattle.avi_model.proofs.Numbers.{Whole}
 use Rattle.avi_model.proofs.Walk.{IsRiffHead}
 use Rattle.avi_model.proofs.Entries.{super_kind, standard_kind, super_index, standard_index, entry_long, place_named, first_is}
@@ -27,7 +28,7 @@ use Rattle.avi_model.proofs.Levels.{Ended, top_heads, further_whole, others_rang
 use Rattle.avi_model.proofs.Sound.{ended, holder_of, named_sound, named_from, named_place, index_sound, writes_of, Writes, of_index, of_old}
 use Rattle.avi_model.proofs.Stands.{is_file, index_stands, old_stands, table_bytes}
 use Rattle.avi_model.proofs.Same.{AsItStands, stands_written, super_table_same, standard_table_same, old_table_same}
-use Rattle.avi_model.proofs.Still.{place_stays, past_stays, laid_patched}
+use Rattle.avi_model.proofs.Still.{place_stays, past_stays, laid_patched, ordered, covered}
 
 module _ (o : List ℕ) (bytes : IsBytes o) (s : Supported o) (e : Items) (fits : units_fit (ends_file (avi_of o)) (units shut (new_cells (avi_of o) e)) ≡ true) where
   abbrev a : Avi
@@ -159,20 +160,45 @@ module _ (o : List ℕ) (bytes : IsBytes o) (s : Supported o) (e : Items) (fits 
       go w (of_index t i d) = subst (AsItStands o) d (subst (λ (x : List ℕ). AsItStands o (record { at = t.at; bytes = x })) (sym (index_same t i)) (index_stands o bytes s t i))
       go w (of_old x i d) = subst (AsItStands o) d (subst (λ (y : List ℕ). AsItStands o (record { at = x.at + 8; bytes = y })) (sym (old_same x i)) (old_stands o bytes s x i))
 
+  laid_same : laid_file o e ≡ spell_avi (laid a e)
+  unfolding laid_file
+  laid_same = ap (λ (x : List ℕ). spell_avi (laid (avi_of x) e)) numbers_stay
+
   -- The patches make the new file.
   pub made : take (length (laid_file o e)) (patched (patches_of (avi_of o) e) o) ≡ laid_file o e
-  unfolding laid_file
   made =
-      let same : laid_file o e ≡ spell_avi (laid a e) = ap (λ (x : List ℕ). spell_avi (laid (avi_of x) e)) numbers_stay in
-      ap (λ (x : List ℕ). take (length x) (patched (patches_of a e) o)) same ∙ ap (λ (x : List ℕ). take (length (spell_avi (laid a e))) (patched (patches_of a e) x)) (is_file o bytes s) ∙ laid_patched a e fits ∙ sym same
+      ap (λ (x : List ℕ). take (length x) (patched (patches_of a e) o)) laid_same ∙ ap (λ (x : List ℕ). take (length (spell_avi (laid a e))) (patched (patches_of a e) x)) (is_file o bytes s)
+      ∙ laid_patched a e fits ∙ sym laid_same
 
--- The patches of an edit of fields make its new file.
-pub patches_make : (o : List ℕ) (bytes : IsBytes o) (s : Supported o) (e : List EditItem) → Room o e → take (length (new_file o e)) (patched (patches o e) o) ≡ new_file o e
-patches_make o bytes s e r = go (changes o e) refl
-  where
-    fits : units_fit (ends_file (avi_of o)) (Rattle.avi_model.specs.Room.pieces_of (avi_of o) (changes o e)) ≡ true
-    fits = (and_parts (units_fit (ends_file (avi_of o)) (Rattle.avi_model.specs.Room.pieces_of (avi_of o) (changes o e))) (Rattle.std.specs.Prelude.nat_le (Rattle.carrier_model.specs.Room.total (patches o e)) (2 ^ 24)) r).0
+  -- They are in order, and cover what the file gains.
+  pub laid_ordered : InOrder 0 (patches_of (avi_of o) e) (length (laid_file o e))
+  laid_ordered = subst (λ (x : List ℕ). InOrder 0 (patches_of a e) (length x)) (sym laid_same) (ordered a e fits)
 
-    go : (x : Items) → changes o e ≡ x → take (length (edited_file o x)) (patched (Rattle.avi_model.specs.Room.patches_by (avi_of o) x) o) ≡ edited_file o x
-    go [] d = take_all (length o) o (omega arith)
-    go (i ∷ t) d = made o bytes s (i ∷ t) (subst (λ (x : Items). units_fit (ends_file (avi_of o)) (units shut (new_cells (avi_of o) x)) ≡ true) d fits)
+  pub laid_covered : (q : ℕ) → length o ≤ q → q < length (laid_file o e) → InPatch q (patches_of (avi_of o) e)
+  laid_covered q low high = covered a e fits q (omega (arith, low, ap length (is_file o bytes s))) (omega (arith, high, ap length laid_same))
+
+-- For an edit of fields: no number changes, and its patches make its new file.
+module _ (o : List ℕ) (bytes : IsBytes o) (s : Supported o) (e : List EditItem) (r : Room o e) where
+  room : (units_fit (ends_file (avi_of o)) (pieces_of (avi_of o) (changes o e)) ≡ true) × (nat_le (total (patches o e)) (2 ^ 24) ≡ true)
+  room = and_parts (units_fit (ends_file (avi_of o)) (pieces_of (avi_of o) (changes o e))) (nat_le (total (patches o e)) (2 ^ 24)) r
+
+  pub edit_stays : renumbered (move (shift (edit_cuts (avi_of o) (changes o e)))) o ≡ o
+  edit_stays = numbers_stay o bytes s (changes o e) room.0
+
+  fit_of : (x : Items) → changes o e ≡ x → units_fit (ends_file (avi_of o)) (units shut (new_cells (avi_of o) x)) ≡ true
+  fit_of x d = subst (λ (x : Items). units_fit (ends_file (avi_of o)) (units shut (new_cells (avi_of o) x)) ≡ true) d room.0
+
+  pub patches_make : new_file o e ≡ take (length (new_file o e)) (patched (patches o e) o)
+  patches_make = go (changes o e) refl
+    where
+      go : (x : Items) → changes o e ≡ x → edited_file o x ≡ take (length (edited_file o x)) (patched (patches_by (avi_of o) x) o)
+      go [] d = sym (take_all (length o) o (omega arith))
+      go (i ∷ t) d = sym (made o bytes s (i ∷ t) (fit_of (i ∷ t) d))
+
+  pub patches_sound : SoundPatches (length o) (length (new_file o e)) (patches o e)
+  patches_sound = record { in_order = (both (changes o e) refl).0; few_bytes = leb-true (total (patches o e)) (2 ^ 24) room.1; cover = (both (changes o e) refl).1 }
+    where
+      both : (x : Items) → changes o e ≡ x
+          → InOrder 0 (patches_by (avi_of o) x) (length (edited_file o x)) × ((q : ℕ) → length o ≤ q → q < length (edited_file o x) → InPatch q (patches_by (avi_of o) x))
+      both [] d = (omega arith, λ q low high. absurd (omega arith))
+      both (i ∷ t) d = (laid_ordered o bytes s (i ∷ t) (fit_of (i ∷ t) d), laid_covered o bytes s (i ∷ t) (fit_of (i ∷ t) d))

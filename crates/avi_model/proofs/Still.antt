@@ -13,6 +13,9 @@ use Rattle.container_model.proofs.Splice.{before_lost, behind_lost}
 use Rattle.container_model.proofs.Units.{BringsPad, spell_all-append, units_old, units_bring}
 use Rattle.carrier_model.specs.Info.{riff_fill, is_type, list_run}
 use Rattle.carrier_model.specs.Room.{fits_slot, units_fit, unit_patches, patched}
+use Rattle.part_tree.specs.declared.plan.Patch.{Patch}
+use Rattle.carrier_model.specs.Order.{InOrder, InPatch}
+use Rattle.carrier_model.proofs.Order.{order_low, order_patch, in_behind, units_in_order, units_cover}
 use Rattle.carrier_model.proofs.Room.{LastOnly, last_units, patched-append, patched_one, fitting_length, units_patched}
 use Rattle.avi_model.specs.Avi.{Avi, inner, behind, spell_avi}
 use Rattle.avi_model.specs.NewFile.{Items, is_none, ends_file, new_cells, new_children, new_pad, pad_after, laid, pad_cut, edit_cuts}
@@ -96,6 +99,10 @@ none_is : (x : List ℕ) → is_none x ≡ true → x ≡ []
 none_is [] e = refl
 none_is (y ∷ x) e = absurd cc
 
+order_high : (from : ℕ) (ps : List Patch) (end high : ℕ) → end ≤ high → InOrder from ps end → InOrder from ps high
+order_high from [] end high l h = omega arith
+order_high from (p ∷ ps) end high l h = (h.0, h.1, order_high (p.at + length p.bytes) ps end high l h.2)
+
 module _ (a : Avi) (e : Items) (fits : units_fit (ends_file a) (units shut (new_cells a e)) ≡ true) where
   abbrev ps : List Piece
   ps = units shut (new_cells a e)
@@ -167,27 +174,70 @@ module _ (a : Avi) (e : Items) (fits : units_fit (ends_file a) (units shut (new_
 
   -- ---- the patches
 
+  -- what stands behind the chunks
+  abbrev rest : List ℕ
+  rest = a.left ++ (a.pad ++ behind a)
+
+  -- the front of the form, up to its chunks
+  abbrev front : ℕ → List ℕ
+  front m = (codes "RIFF" ++ to_le_bytes w32 m) ++ codes "AVI "
+
+  nothing_behind : ends_file a ≡ true → a.left ++ (a.pad ++ behind a) ≡ []
+  nothing_behind t = let x = ended_rest t in ap (λ (l : List ℕ). l ++ (a.pad ++ behind a)) x.0 ∙ ap (λ (l : List ℕ). l ++ behind a) x.1 ∙ x.2
+
+  old_is : spell_avi a ≡ front (length (inner a.children a.left)) ++ (flat_map old_bytes ps ++ rest)
+  old_is = let old : flat_map old_bytes ps ≡ spell_all a.children = units_old shut (new_cells a e) ∙ ap spell_all (was_new a e) in rw old (simp append_assoc)
+
+  new_is : spell_avi (laid a e) ≡ front (length (inner (new_children a e) a.left)) ++ (spell_all (new_children a e) ++ rest)
+  new_is = ap (λ (p : List ℕ). spell_avi (record { children = new_children a e; left = a.left; pad = p; others = a.others; tail = a.tail })) pad_same ∙ simp append_assoc
+
   pub laid_patched : take (length (spell_avi (laid a e))) (patched (Rattle.avi_model.specs.Room.patches_of a e) (spell_avi a)) ≡ spell_avi (laid a e)
   laid_patched =
       let n = length (inner a.children a.left) in
       let k = length (inner (new_children a e) a.left) in
-      let head = λ (m : ℕ). (codes "RIFF" ++ to_le_bytes w32 m) ++ codes "AVI " in
       let r = a.left ++ (a.pad ++ behind a) in
-      let old : flat_map old_bytes ps ≡ spell_all a.children = units_old shut (new_cells a e) ∙ ap spell_all (was_new a e) in
-      let is : spell_avi a ≡ head n ++ (flat_map old_bytes ps ++ r) = rw old (simp append_assoc) in
-      let sized : patched (Rattle.avi_model.specs.Room.size_patch n k) (spell_avi a) ≡ head k ++ (flat_map old_bytes ps ++ r) = ap (patched (Rattle.avi_model.specs.Room.size_patch n k)) is ∙ size_set n k (flat_map old_bytes ps ++ r) in
-      let u = units_patched (ends_file a) 12 (head k) ps r refl only_last brings fits (λ t. let x = ended_rest t in none_left x.0 x.1 x.2) in
-      let new : spell_avi (laid a e) ≡ head k ++ (spell_all (new_children a e) ++ r) = ap (λ (p : List ℕ). spell_avi (record { children = new_children a e; left = a.left; pad = p; others = a.others; tail = a.tail })) pad_same ∙ simp append_assoc in
+      let sized : patched (Rattle.avi_model.specs.Room.size_patch n k) (spell_avi a) ≡ front k ++ (flat_map old_bytes ps ++ r) = ap (patched (Rattle.avi_model.specs.Room.size_patch n k)) old_is ∙ size_set n k (flat_map old_bytes ps ++ r) in
+      let u = units_patched (ends_file a) 12 (front k) ps r refl only_last brings fits (λ t. nothing_behind t) in
       let made : patched (Rattle.avi_model.specs.Room.patches_of a e) (spell_avi a) ≡ spell_avi (laid a e) ++ u.0
-      = patched-append (Rattle.avi_model.specs.Room.size_patch n k) (unit_patches (riff_fill (ends_file a)) 12 ps) (spell_avi a) ∙ ap (patched (unit_patches (riff_fill (ends_file a)) 12 ps)) sized ∙ u.1 ∙ ap (λ (x : List ℕ). x ++ u.0) (sym new) in
+      = patched-append (Rattle.avi_model.specs.Room.size_patch n k) (unit_patches (riff_fill (ends_file a)) 12 ps) (spell_avi a) ∙ ap (patched (unit_patches (riff_fill (ends_file a)) 12 ps)) sized ∙ u.1 ∙ ap (λ (x : List ℕ). x ++ u.0) (sym new_is) in
       ap (take (length (spell_avi (laid a e)))) made ∙ take_at (spell_avi (laid a e)) u.0 (length (spell_avi (laid a e))) refl
     where
-      none_left : a.left ≡ [] → a.pad ≡ [] → behind a ≡ [] → a.left ++ (a.pad ++ behind a) ≡ []
-      none_left x y z = ap (λ (l : List ℕ). l ++ (a.pad ++ behind a)) x ∙ ap (λ (l : List ℕ). l ++ behind a) y ∙ z
-
       size_set : (n k : ℕ) (rest : List ℕ) → patched (Rattle.avi_model.specs.Room.size_patch n k) (((codes "RIFF" ++ to_le_bytes w32 n) ++ codes "AVI ") ++ rest) ≡ ((codes "RIFF" ++ to_le_bytes w32 k) ++ codes "AVI ") ++ rest
       size_set n k rest = side (eqb n k) refl
         where
           side : (t : Bool) → eqb n k ≡ t → patched (cond t [] (Rattle.carrier_model.specs.Room.patch 4 (to_le_bytes w32 k))) (((codes "RIFF" ++ to_le_bytes w32 n) ++ codes "AVI ") ++ rest) ≡ ((codes "RIFF" ++ to_le_bytes w32 k) ++ codes "AVI ") ++ rest
           side true t = ap (λ (m : ℕ). ((codes "RIFF" ++ to_le_bytes w32 m) ++ codes "AVI ") ++ rest) (eqb-true n k t)
           side false t = patched_one 4 (to_le_bytes w32 k) (((codes "RIFF" ++ to_le_bytes w32 n) ++ codes "AVI ") ++ rest)
+
+  old_long : length (spell_avi a) ≡ 12 + (length (flat_map old_bytes ps) + length rest)
+  old_long = let n = length (inner a.children a.left) in ap length old_is ∙ omega (arith, length-append (front n) (flat_map old_bytes ps ++ rest), length-append (flat_map old_bytes ps) rest)
+
+  new_long : length (spell_avi (laid a e)) ≡ 12 + (length (spell_all (new_children a e)) + length rest)
+  new_long = let n = length (inner (new_children a e) a.left) in ap length new_is ∙ omega (arith, length-append (front n) (spell_all (new_children a e) ++ rest), length-append (spell_all (new_children a e)) rest)
+
+  -- The patches are in order and lie in the new file.
+  pub ordered : InOrder 0 (Rattle.avi_model.specs.Room.patches_of a e) (length (spell_avi (laid a e)))
+  ordered =
+      let us = unit_patches (riff_fill (ends_file a)) 12 ps in
+      size_first (length (inner a.children a.left)) (length (inner (new_children a e) a.left)) us (length (spell_avi (laid a e)))
+      (order_high 12 us (12 + length (spell_all (new_children a e))) (length (spell_avi (laid a e))) (omega (arith, new_long)) (units_in_order (ends_file a) 12 12 ps (omega arith) only_last brings fits))
+    where
+      size_first : (n k : ℕ) (us : List Patch) (end : ℕ) → InOrder 12 us end → InOrder 0 (Rattle.avi_model.specs.Room.size_patch n k ++ us) end
+      size_first n k us end h = side (eqb n k)
+        where
+          side : (t : Bool) → InOrder 0 (cond t [] (Rattle.carrier_model.specs.Room.patch 4 (to_le_bytes w32 k)) ++ us) end
+          side true = order_low 0 12 us end (omega arith) h
+          side false = order_patch 0 4 (to_le_bytes w32 k) us end (omega arith) (order_low 8 12 us end (omega arith) h)
+
+  -- They cover what the file gains.
+  pub covered : (q : ℕ) → length (spell_avi a) ≤ q → q < length (spell_avi (laid a e)) → InPatch q (Rattle.avi_model.specs.Room.patches_of a e)
+  covered q low high = go (ends_file a) refl
+    where
+      go : (t : Bool) → ends_file a ≡ t → InPatch q (Rattle.avi_model.specs.Room.patches_of a e)
+      go true t =
+          let none : length rest ≡ 0 = ap length (nothing_behind t) in
+          in_behind q (Rattle.avi_model.specs.Room.size_patch (length (inner a.children a.left)) (length (inner (new_children a e) a.left))) (unit_patches (riff_fill (ends_file a)) 12 ps)
+          (units_cover (ends_file a) 12 ps q only_last brings fits (omega (arith, low, old_long, none)) (omega (arith, high, new_long, none)))
+      go false t =
+          let long = fitting_length (ends_file a) t ps brings fits in
+          absurd (omega (arith, long, low, high, old_long, new_long))

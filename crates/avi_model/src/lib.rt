@@ -18,7 +18,7 @@ ghost use Rattle.avi_model.specs.Why.{why};
 ghost use Rattle.avi_model.specs.NewFile.{Items, edit_cuts, with_size, moves, laid_file};
 ghost use Rattle.avi_model.specs.Edited.{Edited, changes, fields, new_file};
 ghost use Rattle.avi_model.specs.Large.{too_large, new_avi};
-ghost use Rattle.avi_model.specs.Room.{Room, patches};
+ghost use Rattle.avi_model.specs.Room.{Room, SoundPatches, patches};
 ghost use Rattle.avi_model.specs.Map.{parts_of, bytes_in, essence_spans, table_span, supers, standards};
 
 use part_tree as _;
@@ -43,9 +43,12 @@ pub fn new_is_spliced()
     ensures ascend { (o : List ℕ) (e : Items) → IsBytes o → Supported o → Ascend 0 (edit_cuts (avi_of o) e) (length o) }
 {}
 
-/// Where an edit has room, its patches laid over the old file, at the new file's length, make the new file.
+/// Where an edit has room, no number of a table changes, and its patches, laid over the old file at the new file's length,
+/// make the new file. They are in order, lie in the new file, have at most 16 MiB, and cover what the file gains.
 pub fn patches_make_new()
-    ensures { (o : List ℕ) (e : List EditItem) → IsBytes o → Supported o → Room o e → take (length (new_file o e)) (patched (patches o e) o) ≡ new_file o e }
+    ensures stay { (o : List ℕ) (e : List EditItem) → IsBytes o → Supported o → Room o e → renumbered (move (moves o (changes o e))) o ≡ o }
+    ensures made { (o : List ℕ) (e : List EditItem) → IsBytes o → Supported o → Room o e → new_file o e ≡ take (length (new_file o e)) (patched (patches o e) o) }
+    ensures sound { (o : List ℕ) (e : List EditItem) → IsBytes o → Supported o → Room o e → SoundPatches (length o) (length (new_file o e)) (patches o e) }
 {}
 
 /// Where something is edited and nothing is too large, the new file has at most 2^63-1 bytes, and the body of its first
