@@ -69,8 +69,12 @@ module _ (o n : List ℕ) (f : ℕ → ℕ) (Ok : ℕ → Type 0) (order : Order
       let w = write_index (move f) (named o p) in
       let same_len : length w.bytes ≡ len = index_length (move f) (named o p).body h.whole ∙ body_len in
       let own : slice (written ws 0 o) (p + 8) len ≡ index_body (move f) (named o p).body = ap (slice (written ws 0 o) (p + 8)) (sym same_len) ∙ slice_own w ws o h.owns.is_there h.owns.alone (omega (arith, same_len, fits)) in
-      ap (λ (x : List ℕ). record { at = f p + 8; body = slice n (f p + 8) (from_le_bytes w32 x) }) number
-      ∙ ap (λ (q : ℕ). record { at = q; body = slice n q len }) (sym at8) ∙ ap (λ (b : List ℕ). record { at = f (p + 8); body = b }) (eight.same ∙ own)
+      let sized : Table = record { at = f p + 8; body = slice n (f p + 8) len } in
+      let placed : Table = record { at = f (p + 8); body = slice n (f (p + 8)) len } in
+      let one : named n (f p) ≡ sized = ap (λ (x : List ℕ). record { at = f p + 8; body = slice n (f p + 8) (from_le_bytes w32 x) }) number in
+      let two : sized ≡ placed = ap (λ (q : ℕ). record { at = q; body = slice n q len }) (sym at8) in
+      let three : placed ≡ moved (named o p) = ap (λ (b : List ℕ). record { at = f (p + 8); body = b }) (eight.same ∙ own) in
+      one ∙ (two ∙ three)
 
   all_named : (ps : List ℕ) → AllByRecursion NamedFine ps → map (named n) (map f ps) ≡ map moved (map (named o) ps)
   all_named [] h = refl

@@ -1,6 +1,6 @@
 -- Worked files: what an edit makes of them, and why files are refused.
-use Rattle.std.proofs.Common.{◌≡◌, ℕ, ◌+◌, ◌^◌, List, [], ◌∷◌, ◌++◌, map, Some, None, refl}
-use Rattle.std.specs.Prelude.{codes, replicate}
+use Rattle.std.proofs.Common.{◌≡◌, ℕ, ◌+◌, ◌^◌, List, [], ◌∷◌, ◌++◌, map, Some, None, refl, true, false}
+use Rattle.std.specs.Prelude.{codes, replicate, nat_lt, if◌then◌else◌}
 use Rattle.std.specs.Int.{w16, w32, w64, to_le_bytes}
 use Rattle.std.specs.Str.{chars, is_utf8}
 use Rattle.part_tree.specs.Letters.{four}
@@ -19,7 +19,8 @@ use Rattle.container_model.specs.Units.{units}
 use Rattle.avi_model.specs.Why.{why}
 use Rattle.avi_model.specs.NewFile.{laid_file}
 use Rattle.avi_model.specs.Edited.{fields, new_file}
-use Rattle.avi_model.specs.Large.{too_large}
+use Rattle.avi_model.specs.Large.{too_large, first_failing, standard_checks}
+use Rattle.avi_model.specs.Room.{has_room, patches}
 use Rattle.avi_model.specs.Map.{parts_of, essence_bytes, counted_entries}
 
 -- ---- how the files are spelled
@@ -165,6 +166,31 @@ mixed_row : new_file (form 516 (streams_hdrl 256 412 296 372 ++ (streams_movi 22
     ≡ form 540 (streams_hdrl 280 436 320 396 ++ (list_hi ++ (streams_movi 248 264 364 380 ++ movi_entries)))
 unfolding laid_file units chunks read
 mixed_row = refl
+
+-- ---- room in place
+
+abbrev list_row : List ℕ → List ℕ
+list_row title = part (codes "LIST") 16 (codes "INFO" ++ part (codes "INAM") 3 (title ++ 0 ∷ (0 ∷ [])))
+
+-- A title of the same length is written where the old one stood; a shorter one and a first one have no room.
+room_row : (has_room (form 312 (hdrl ++ (list_hi ++ (movi ++ two_entries 4 20)))) (sets (codes "Ho")) ≡ true)
+    × (patches (form 312 (hdrl ++ (list_hi ++ (movi ++ two_entries 4 20)))) (sets (codes "Ho")) ≡ record { at = 212; bytes = list_row (codes "Ho") } ∷ [])
+unfolding units chunks read
+room_row = (refl, refl)
+
+no_room_row : (has_room (form 312 (hdrl ++ (list_hi ++ (movi ++ two_entries 4 20)))) (sets (codes "H")) ≡ false) × (has_room (frames_file 4 20) (sets (codes "Hi")) ≡ false)
+unfolding units chunks read
+no_room_row = (refl, refl)
+
+-- ---- what is too large
+
+-- 200 bytes at 1000 stay, and 100 bytes at 1500 move by 24
+abbrev moves_of : ℕ → ℕ
+moves_of p = if nat_lt p 1500 then p else p + 24
+
+-- Base 1000; the first entry names 1500 and the second one 1000. The new base is 1024, and the second entry stands before it.
+before_base_row : first_failing (standard_checks moves_of (le16 2 ++ (0 ∷ 1 ∷ [] ++ (le32 2 ++ (codes "00db" ++ (le64 1000 ++ (le32 0 ++ (le32 500 ++ (le32 8 ++ (le32 0 ++ le32 8))))))))) (Some 500)) ≡ Some (record { size = 1000; limit = 0 })
+before_base_row = refl
 
 -- ---- what is told
 
