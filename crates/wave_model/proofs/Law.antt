@@ -88,7 +88,7 @@ idle_updated f (Whole id) = refl
 idle_updated f (User id) = refl
 
 module _ (o : List ℕ) (bytes : IsBytes o) (sup : Supported o) where
-  same_children : new_children (wave_of o) [] ≡ (wave_of o).children
+  pub same_children : new_children (wave_of o) [] ≡ (wave_of o).children
   same_children =
       let w = wave_of o in
       ap (λ (xs : List Cell). lay (fill_of w) (units shut xs)) (idle_carried (cells_of w))

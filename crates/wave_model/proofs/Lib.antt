@@ -20,3 +20,4 @@ pub mod Room
 pub mod Map
 pub mod Example
 pub mod Names
+pub mod Few

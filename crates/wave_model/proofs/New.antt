@@ -241,6 +241,15 @@ low_bodies n (c ∷ cs) h =
 
 -- ---- the new file of a supported one
 
+pub made_padded_all : (ss : List (List Chunk → Rattle.carrier_model.specs.Cells.Act)) → AllMake IsMade ss → AllMake IsPadded ss
+made_padded_all [] h = tt
+made_padded_all (s ∷ ss) h = ((λ cs. one (s cs) (h.0 cs)), made_padded_all ss h.1)
+  where
+    one : (a : Rattle.carrier_model.specs.Cells.Act) → Makes IsMade a → Makes IsPadded a
+    one Rattle.carrier_model.specs.Cells.nothing m = tt
+    one (Rattle.carrier_model.specs.Cells.change p g) m = λ n c. All-map (λ d h. h.padded) _ (m n c)
+    one (Rattle.carrier_model.specs.Cells.add s t c) m = m.padded
+
 module _ (o : List ℕ) (bytes : IsBytes o) (sup : Supported o) (e : List RawItem) (f : ItemsFine e) (fits : Fits (wave_of o) e) where
   old_own : AllByRecursion Own (wave_of o).children
   old_own = go (is_big (take 4 o)) refl
@@ -402,15 +411,6 @@ module _ (o : List ℕ) (bytes : IsBytes o) (sup : Supported o) (e : List RawIte
 
   pub old_cell_pads : Rattle.container_model.proofs.Reread.CellPads (cells_of (wave_of o)) (wave_of o).left
   old_cell_pads = pads_cells (wave_of o).ds64 (wave_of o).children (wave_of o).left pads_behind
-
-  made_padded_all : (ss : List (List Chunk → Rattle.carrier_model.specs.Cells.Act)) → AllMake IsMade ss → AllMake IsPadded ss
-  made_padded_all [] h = tt
-  made_padded_all (s ∷ ss) h = ((λ cs. one (s cs) (h.0 cs)), made_padded_all ss h.1)
-    where
-      one : (a : Rattle.carrier_model.specs.Cells.Act) → Makes IsMade a → Makes IsPadded a
-      one Rattle.carrier_model.specs.Cells.nothing m = tt
-      one (Rattle.carrier_model.specs.Cells.change p g) m = λ n c. All-map (λ d h. h.padded) _ (m n c)
-      one (Rattle.carrier_model.specs.Cells.add s t c) m = m.padded
 
   pub new_pads : Pads (new_children (wave_of o) e) (wave_of o).left
   new_pads =

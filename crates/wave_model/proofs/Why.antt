@@ -83,7 +83,7 @@ good_from at s c h = record {
   few_parts = ltb-false _ _ h.1.1.1.1.1.1.1.1.1.0;
 }
 
-parts_some : (c : Chunk) → 1 ≤ length (parts_of c)
+pub parts_some : (c : Chunk) → 1 ≤ length (parts_of c)
 parts_some c = go (is_info c)
   where
     go : (t : Bool) → 1 ≤ length (cond t (c ∷ (list_run c).chunks) (c ∷ []))

@@ -59,10 +59,12 @@ pub fn new_file_is_no_larger()
 {}
 
 /// Where an edit has room in place, its patches, laid over the old file at the new length, make the new file; they are
-/// in order, lie in the new file, have at most 16 MiB, and cover what the file gains.
+/// in order, lie in the new file, have at most 16 MiB, cover what the file gains, and are at most 65,536 where the edit
+/// isn't too large.
 pub fn patches_make_the_file()
     ensures made { (o : List ℕ) (e : List EditItem) → IsBytes o → Supported o → Room o e → new_file o e ≡ take (length (new_file o e)) (patched (patches o e) o) }
     ensures sound { (o : List ℕ) (e : List EditItem) → IsBytes o → Supported o → Room o e → SoundPatches (length o) (length (new_file o e)) (patches o e) }
+    ensures few { (o : List ℕ) (e : List EditItem) → IsBytes o → Supported o → too_large o e ≡ None → length (patches o e) ≤ 65536 }
 {}
 
 /// A reader tells as many parts of a supported file as are counted, and its sound is the body of `data`.
