@@ -54,9 +54,13 @@ spelled_date text = take 4 text ++ (codes "-" ++ (take 2 (drop 5 text) ++ (codes
 abbrev pub spelled_time : List ℕ → List ℕ
 spelled_time text = take 2 text ++ (codes ":" ++ (take 2 (drop 3 text) ++ (codes ":" ++ take 2 (drop 6 text))))
 
+-- a month, yyyy-mm, and a day, yyyy-mm-dd
+abbrev pub is_month : List ℕ → Bool
+is_month text = has_form (codes "dddd-dd") text && month_exists (number_at 5 2 text)
+
+abbrev pub is_day : List ℕ → Bool
+is_day text = has_form (codes "dddd-dd-dd") text && date_exists (number_at 0 4 text) (number_at 5 2 text) (number_at 8 2 text)
+
 -- a date of INFO: yyyy, yyyy-mm or yyyy-mm-dd, with a month or a date that exists
 abbrev pub is_info_date : List ℕ → Bool
-is_info_date text =
-    has_form (codes "dddd") text
-    || ((has_form (codes "dddd-dd") text && month_exists (number_at 5 2 text))
-    || (has_form (codes "dddd-dd-dd") text && date_exists (number_at 0 4 text) (number_at 5 2 text) (number_at 8 2 text)))
+is_info_date text = has_form (codes "dddd") text || (is_month text || is_day text)

@@ -4,6 +4,7 @@ pub mod Broken
 pub mod Dates
 pub mod Fields
 pub mod History
+pub mod Lawful
 pub mod Numbers
 pub mod Raw
 pub mod Rules

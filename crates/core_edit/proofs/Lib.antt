@@ -1,0 +1,6 @@
+pub mod Hex
+pub mod Lawful
+pub mod Letters
+pub mod Sound
+pub mod Tables
+pub mod Texts

@@ -1,0 +1,8 @@
+use Rattle.std.proofs.Common.{◌≡◌, drop, ◌==◌, ◌||◌, ◌&&◌}
+use Rattle.std.specs.List.{list_any, list_all}
+use Rattle.std.specs.Char.{is_ascii_hexdigit}
+use Rattle.core_edit.proofs.number.is_hex.Given as goal
+
+-- the bytes from here on decide
+abbrev pub invariant-loop-c : goal.invariant-loop-c
+invariant-loop-c l = list_all is_ascii_hexdigit (drop l.c-index l.text) ≡ list_all is_ascii_hexdigit l.text

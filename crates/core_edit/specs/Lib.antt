@@ -1,0 +1,6 @@
+pub mod Edits
+pub mod Forms
+pub mod Hundredths
+pub mod Made
+pub mod Names
+pub mod Shown

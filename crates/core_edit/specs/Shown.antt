@@ -1,0 +1,23 @@
+-- The text that a value shows, without taking memory.
+use Rattle.std.specs.Prelude.{ℕ, List, true, false, Option, Some}
+use Rattle.part_tree.specs.declared.field.FieldName.{FieldName}
+use Rattle.part_tree.specs.declared.field.FieldName.TheVariants.{Bext, Info, Whole, User}
+use Rattle.field_model.specs.Bext.{form_of}
+use Rattle.field_model.specs.Numbers.{hex_text}
+use Rattle.field_model.specs.Shown.{before_zero, shown_form, shown_whole}
+use Rattle.core_edit.specs.declared.value_text.ShownText.{ShownText}
+use Rattle.core_edit.specs.declared.value_text.ShownText.TheVariants.{Plain, Upper, Lower, Few}
+
+-- the bytes of a shown text
+abbrev pub text_of : ShownText → List ℕ
+text_of (Plain bytes) = bytes.now
+text_of (Upper raw) = hex_text true raw.now
+text_of (Lower raw) = hex_text false raw.now
+text_of (Few bytes) = bytes
+
+-- what the bytes of a field show, where bext tells a version
+abbrev pub shown_at : ℕ → FieldName → List ℕ → Option (List ℕ)
+shown_at version (Bext field) raw = shown_form (form_of field) version raw
+shown_at version (Info id) raw = Some (before_zero raw)
+shown_at version (Whole id) raw = Some (shown_whole id.0 raw)
+shown_at version (User id) raw = Some raw

@@ -1,0 +1,22 @@
+//! Edits of fields, pure of any file: the names of fields as texts, what a value shows, the bytes that a text is laid as, and
+//! which texts a field can't have.
+//! A date exists where `jiff` says so.
+#![tactic(auto)]
+
+mod date;
+mod edit;
+mod name;
+mod number;
+mod raw;
+mod rule;
+mod short;
+#[cfg(test)]
+mod tests;
+mod value_text;
+
+pub use edit::{Edit, EditFault};
+pub use name::{field_name, name_text};
+pub use part_tree::{Change, EditItem};
+pub use raw::raw_of;
+pub use rule::text_rule;
+pub use value_text::{ShownText, shown, shown_text};

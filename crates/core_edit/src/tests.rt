@@ -1,0 +1,116 @@
+// Worked rows.
+use crate::{Change, EditItem, field_name, name_text, raw_of, shown, text_rule};
+use part_tree::{BextField, Bytes, FieldName, Fields, FourCc, Value};
+use std::test::Fail;
+
+#[test]
+fn names(rt: HostRuntime) -> Result<(), Fail> {
+    let rows: [(&str, Option<FieldName>); 9] = [
+        ("INAM", Some(FieldName::Info(FourCc(*b"INAM")))),
+        ("inam", None),
+        ("XXXX", None),
+        ("UMID", Some(FieldName::Bext(BextField::Umid))),
+        ("XMP", Some(FieldName::Whole(FourCc(*b"_PMX")))),
+        ("_PMX", None),
+        ("Reserved", None),
+        ("@nam", Some(FieldName::User(FourCc(*b"\xa9nam")))),
+        ("@n.m", None),
+    ];
+    for (text, name) in rows.iter() {
+        assert!(rt; field_name(text.as_bytes()) == *name);
+        if let Some(name) = name {
+            let bytes = name_text(rt.alloc(), name)?;
+            assert_eq!(rt; bytes.as_ref().map(|b| b.as_slice()), Some(text.as_bytes()));
+        }
+    }
+    Ok(())
+}
+
+#[test]
+fn rules(rt: HostRuntime) -> Result<(), Fail> {
+    let rows: [(&str, &[u8], Option<u8>); 18] = [
+        ("Version", b"1", Some(2)),
+        ("INAM", b"a\0b", Some(3)),
+        ("Originator", b"\x7f", Some(4)),
+        ("CodingHistory", b"A=PCM\r\n", None),
+        ("Originator", &[b'x'; 32], None),
+        ("Originator", &[b'x'; 33], Some(5)),
+        ("OriginationDate", b"2024-02-30", Some(6)),
+        ("OriginationDate", b"0000-02-29", None),
+        ("OriginationTime", b"24:00:00", Some(7)),
+        ("TimeReference", b"18446744073709551616", Some(8)),
+        ("TimeReference", b"18446744073709551615", None),
+        ("LoudnessValue", b"327.66", None),
+        ("LoudnessValue", b"327.67", Some(9)),
+        ("LoudnessValue", b"-0.00", Some(9)),
+        ("UMID", b"AA", Some(10)),
+        ("MD5", b"AA", Some(11)),
+        ("INAM", b"\xff", Some(12)),
+        ("axml", b"\xff", None),
+    ];
+    for (text, value, rule) in rows.iter() {
+        let name = field_name(text.as_bytes()).expect(&rt, "a name");
+        assert_eq!(rt; text_rule(&name, value), *rule);
+    }
+    Ok(())
+}
+
+#[test]
+fn spellings(rt: HostRuntime) -> Result<(), Fail> {
+    let rows: [(&str, &[u8], Option<&[u8]>); 8] = [
+        ("OriginationDate", b"2024_01.31", Some(b"2024-01-31")),
+        ("OriginationTime", b"12 00 59", Some(b"12:00:59")),
+        ("TimeReference", b"258", Some(b"\x02\x01\0\0\0\0\0\0")),
+        ("LoudnessValue", b"-23.00", Some(b"\x04\xf7")),
+        ("LoudnessRange", b"-327.68", Some(b"\0\x80")),
+        ("INAM", b"Hi", Some(b"Hi\0")),
+        (
+            "MD5",
+            b"900150983CD24fb0d6963f7d28e17f72",
+            Some(b"\x90\x01\x50\x98\x3c\xd2\x4f\xb0\xd6\x96\x3f\x7d\x28\xe1\x7f\x72"),
+        ),
+        ("Version", b"1", None),
+    ];
+    for (text, value, raw) in rows.iter() {
+        let name = field_name(text.as_bytes()).expect(&rt, "a name");
+        let spelled = raw_of(rt.alloc(), &name, value)?;
+        assert_eq!(rt; spelled.as_ref().map(|b| b.as_slice()), *raw);
+    }
+    Ok(())
+}
+
+#[test]
+fn texts(rt: HostRuntime) -> Result<(), Fail> {
+    let mut fields = Fields::new(rt.alloc());
+    fields.add(
+        FieldName::Bext(BextField::Version),
+        Value {
+            lang: 0,
+            raw: Bytes::new(rt.alloc(), &[2, 0])?,
+        },
+    )?;
+    let rows: [(&str, &[u8], Option<&[u8]>); 8] = [
+        (
+            "Originator",
+            b"Archive\0x\0\0\0\0\0\0\0\0\0\0\0\0\0\0\0\0\0\0\0\0\0\0\0",
+            Some(b"Archive"),
+        ),
+        ("TimeReference", b"\x02\x01\0\0\0\0\0\0", Some(b"258")),
+        ("LoudnessValue", b"\x04\xf7", Some(b"-23.00")),
+        ("LoudnessValue", b"\xff\x7f", None),
+        ("LoudnessRange", b"\x05\0", Some(b"0.05")),
+        ("MD5", b"\x90\x0f", Some(b"900f")),
+        ("INAM", b"", Some(b"")),
+        ("Version", b"\x02\0", Some(b"2")),
+    ];
+    for (text, raw, seen) in rows.iter() {
+        let name = field_name(text.as_bytes()).expect(&rt, "a name");
+        let value = Value {
+            lang: 0,
+            raw: Bytes::new(rt.alloc(), raw)?,
+        };
+        let shown = shown(rt.alloc(), &fields, &name, &value)?;
+        assert_eq!(rt; shown.as_ref().map(|b| b.as_slice()), *seen);
+    }
+    Ok(())
+}
