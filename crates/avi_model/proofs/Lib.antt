@@ -44,3 +44,4 @@ pub mod Again
 pub mod Grows
 pub mod Stands
 pub mod Map
+pub mod Tabled

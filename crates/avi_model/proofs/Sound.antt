@@ -293,10 +293,10 @@ module _ (o : List ℕ) (bytes : IsBytes o) (s : Supported o) where
     abbrev ws : List Write
     ws = writes how o
 
-    index_bytes : (t : Table) → Among t (indexes o) → length (index_body how t.body) ≡ length t.body
+    pub index_bytes : (t : Table) → Among t (indexes o) → length (index_body how t.body) ≡ length t.body
     index_bytes t i = index_length how t.body (index_sound t i).whole
 
-    old_bytes : (t : Table) → length (old_body how (base o) t.body) ≡ length t.body
+    pub old_bytes : (t : Table) → length (old_body how (base o) t.body) ≡ length t.body
     old_bytes t = Rattle.container_model.proofs.Written.length-map_rows 16 (Rattle.avi_model.specs.Index.old_row how (base o)) (count16 t.body) t.body (old_keeps how (base o))
 
     -- a write is of an index chunk, or of idx1

@@ -131,3 +131,10 @@ module _ (o : List ℕ) (bytes : IsBytes o) (s : Supported o) where
           let w = further_whole a g y.from y.from_among in
           let one = among_all (Spelled o) (kids y.from) (kids_stand o y.from (among_all (Spelled o) (others_at a) others_here y.from y.from_among) w.head w.bytes w.long) x z.0 in
           body_stands o x one (among_all IsRiffHead (kids y.from) (kids_heads y.from) x z.0)
+
+  -- idx1 ends in the file
+  pub old_ends : (x : Stood) → Among x (old_indexes a) → x.at + 8 + length x.chunk.body ≤ length o
+  old_ends x i =
+      let j = among_only (has_id (codes "idx1")) (top a) x (among_first (only (has_id (codes "idx1")) (top a)) x i) in
+      let here = among_all (Spelled o) (top a) top_here x j.0 in
+      omega (arith, here.lies, body_end x (among_all IsRiffHead (top a) (top_heads a g) x j.0))

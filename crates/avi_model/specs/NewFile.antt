@@ -1,16 +1,18 @@
 -- The new file: the slots of edited lists replaced, and the numbers of the tables moved (this project's own).
-use Rattle.std.specs.Prelude.{ℕ, ◌+◌, ◌%◌, ◌==◌, List, [], ◌∷◌, ◌++◌, length, map, take, drop, Bool, true, false, ◌&&◌, not, codes, if◌then◌else◌}
+use Rattle.std.specs.Prelude.{ℕ, ◌+◌, ◌%◌, ◌==◌, nat_le, List, [], ◌∷◌, ◌++◌, length, map, take, drop, Bool, true, false, ◌&&◌, not, codes, if◌then◌else◌}
 use Rattle.std.specs.Str.{bytes_eq}
 use Rattle.std.specs.Int.{w32, to_le_bytes}
 use Rattle.container_model.specs.Chunk.{riff, Chunk}
-use Rattle.container_model.specs.Splice.{Cut, shift}
+use Rattle.container_model.specs.Splice.{Cut, end_of, shift}
 use Rattle.container_model.specs.Units.{Cell, kept, gap, shut, units, lay, cuts}
+use Rattle.container_model.specs.Written.{Write}
 use Rattle.container_model.specs.Items.{Item}
 use Rattle.carrier_model.specs.Cells.{Test}
 use Rattle.carrier_model.specs.Lists.{edit_list_cells}
 use Rattle.carrier_model.specs.Info.{info, info_items, is_padding, is_type, riff_fill}
 use Rattle.avi_model.specs.Avi.{Avi, inner, behind, spell_avi, avi_of}
-use Rattle.avi_model.specs.Index.{move, renumbered}
+use Rattle.avi_model.specs.Index.{How, move, renumbered, write_index, write_old, base, indexes, olds}
+use Rattle.avi_model.specs.Support.{by_place}
 
 -- what becomes of the fields of `LIST INFO`: bytes, or none
 abbrev pub Items : Type 0
@@ -86,3 +88,23 @@ laid_file o e = spell_avi (laid (avi_of (renumbered (move (moves o e)) o)) e)
 abbrev pub edited_file : List ℕ → Items → List ℕ
 edited_file o [] = o
 edited_file o (i ∷ e) = laid_file o (i ∷ e)
+
+-- ---- the tables by place
+
+-- what is written over a table, as a span that is replaced
+abbrev pub cut_of_write : Write → Cut
+cut_of_write w = record { at = w.at; len = length w.bytes; bytes = w.bytes }
+
+-- a span put before the first of some others that begins at or behind its end
+abbrev pub put_cut : Cut → List Cut → List Cut
+put_cut c [] = c ∷ []
+put_cut c (d ∷ ds) = if nat_le (end_of c) d.at then c ∷ (d ∷ ds) else d ∷ put_cut c ds
+
+-- spans put among others
+abbrev pub put_cuts : List Cut → List Cut → List Cut
+put_cuts [] ds = ds
+put_cuts (c ∷ cs) ds = put_cut c (put_cuts cs ds)
+
+-- the bodies of all tables with their numbers changed, by place
+abbrev pub table_cuts : How → List ℕ → List Cut
+table_cuts h b = put_cuts (map (λ t. cut_of_write (write_old h (base b) t)) (olds b)) (map (λ t. cut_of_write (write_index h t)) (by_place (indexes b)))

@@ -15,7 +15,7 @@ ghost use Rattle.avi_model.specs.Avi.{avi_of, inner, essence};
 ghost use Rattle.avi_model.specs.Index.{olds, move, renumbered};
 ghost use Rattle.avi_model.specs.Support.{Supported, parts};
 ghost use Rattle.avi_model.specs.Why.{why};
-ghost use Rattle.avi_model.specs.NewFile.{Items, edit_cuts, with_size, moves, laid_file};
+ghost use Rattle.avi_model.specs.NewFile.{Items, edit_cuts, with_size, moves, laid_file, table_cuts};
 ghost use Rattle.avi_model.specs.Edited.{Edited, changes, fields, new_file};
 ghost use Rattle.avi_model.specs.Large.{too_large, new_avi};
 ghost use Rattle.avi_model.specs.Room.{Room, SoundPatches, patches};
@@ -36,11 +36,14 @@ pub fn refusals_are_exact()
 {}
 
 /// The new file is the old one with the numbers of its tables moved in their places, then the slots of units and the
-/// form's pad replaced, then the form's size set. The replaced spans ascend and lie in the old file.
+/// form's pad replaced, then the form's size set. The tables are whole bodies that are replaced. Both the spans of the
+/// tables and the spans of the edit ascend and lie in the old file.
 pub fn new_is_spliced()
     ensures spliced { (o : List ℕ) (e : Items) → IsBytes o → Supported o
         → laid_file o e ≡ with_size (length (inner (new_avi o e).children (new_avi o e).left)) (splice (renumbered (move (moves o e)) o) (edit_cuts (avi_of o) e)) }
     ensures ascend { (o : List ℕ) (e : Items) → IsBytes o → Supported o → Ascend 0 (edit_cuts (avi_of o) e) (length o) }
+    ensures tables { (o : List ℕ) (e : Items) → IsBytes o → Supported o → renumbered (move (moves o e)) o ≡ splice o (table_cuts (move (moves o e)) o) }
+    ensures tables_ascend { (o : List ℕ) (e : Items) → IsBytes o → Supported o → Ascend 0 (table_cuts (move (moves o e)) o) (length o) }
 {}
 
 /// Where an edit has room, no number of a table changes, and its patches, laid over the old file at the new file's length,
