@@ -21,3 +21,4 @@ pub mod Map
 pub mod Example
 pub mod Names
 pub mod Few
+pub mod Told

@@ -54,19 +54,23 @@ parts_counted o bytes sup =
 
 -- ---- the sound lies where it is told
 
-head_len : (n : ℕ) (c : Chunk) → IsRead n c → length (header_bytes c.form c.id (length c.body)) ≡ 8
+pub head_len : (n : ℕ) (c : Chunk) → IsRead n c → length (header_bytes c.form c.id (length c.body)) ≡ 8
 head_len n c r = go r.form_is
   where
     go : OfRiff c.form → length (header_bytes c.form c.id (length c.body)) ≡ 8
     go (inl e) = ap (λ (f : Form). length (header_bytes f c.id (length c.body))) e ∙ omega (arith, r.id_len, length-append c.id (to_le_bytes w32 (length c.body)))
     go (inr e) = ap (λ (f : Form). length (header_bytes f c.id (length c.body))) e ∙ omega (arith, r.id_len, length-append c.id (255 ∷ 255 ∷ 255 ∷ 255 ∷ []))
 
+-- a header of eight bytes
+abbrev pub Eight : Chunk → Type 0
+Eight c = length (header_bytes c.form c.id (length c.body)) ≡ 8
+
 -- a body in bytes before which so many others stand
-body_there : (n at : ℕ) (x : List ℕ) (c : Chunk) (y : List ℕ) → length x ≡ at → IsRead n c → take (length c.body) (drop (at + 8) (x ++ (spell c ++ y))) ≡ c.body
-body_there n at x c y e r =
+pub body_there : (at : ℕ) (x : List ℕ) (c : Chunk) (y : List ℕ) → length x ≡ at → Eight c → take (length c.body) (drop (at + 8) (x ++ (spell c ++ y))) ≡ c.body
+body_there at x c y e r =
     let h = header_bytes c.form c.id (length c.body) in
     let split : x ++ (spell c ++ y) ≡ (x ++ h) ++ (c.body ++ (c.pad ++ y)) = simp append_assoc in
-    let front : length (x ++ h) ≡ at + 8 = omega (arith, e, head_len n c r, length-append x h) in
+    let front : length (x ++ h) ≡ at + 8 = omega (arith, e, r, length-append x h) in
     ap (λ (z : List ℕ). take (length c.body) (drop (at + 8) z)) split ∙ ap (take (length c.body)) (drop_at (x ++ h) (c.body ++ (c.pad ++ y)) (at + 8) front) ∙ take_at c.body (c.pad ++ y) (length c.body) refl
 
 sound_there : (n at : ℕ) (x : List ℕ) (cs : List Chunk) (y : List ℕ) → length x ≡ at → AllByRecursion (IsRead n) cs → (d : List ℕ) → sounds cs ≡ d ∷ []
@@ -79,7 +83,7 @@ sound_there n at x (c ∷ cs) y e r d s = go (has_id (codes "data") c) refl (sou
         → take (cond t (body_span at c) (sound_from (at + length (spell c)) cs)).len (drop (cond t (body_span at c) (sound_from (at + length (spell c)) cs)).at (x ++ ((spell c ++ spell_all cs) ++ y))) ≡ d
     go true i again =
         let here : c.body ∷ sounds cs ≡ d ∷ [] = sym (ap (λ (t : Bool). cond t (c.body ∷ []) [] ++ sounds cs) i) ∙ s in
-        ap (λ (z : List ℕ). take (length c.body) (drop (at + 8) (x ++ z))) (append_assoc (spell c) (spell_all cs) y) ∙ body_there n at x c (spell_all cs ++ y) e r.0 ∙ Rattle.wave_model.proofs.Edited.first_one c.body (sounds cs) d here
+        ap (λ (z : List ℕ). take (length c.body) (drop (at + 8) (x ++ z))) (append_assoc (spell c) (spell_all cs) y) ∙ body_there at x c (spell_all cs ++ y) e (head_len n c r.0) ∙ Rattle.wave_model.proofs.Edited.first_one c.body (sounds cs) d here
     go false i again =
         let rest : sounds cs ≡ d ∷ [] = sym (ap (λ (t : Bool). cond t (c.body ∷ []) [] ++ sounds cs) i) ∙ s in
         ap (λ (z : List ℕ). take (sound_from (at + length (spell c)) cs).len (drop (sound_from (at + length (spell c)) cs).at z)) (regroup x (spell c) (spell_all cs) y) ∙ again rest

@@ -1,5 +1,6 @@
 -- What a reader tells of a WAVE file: its parts with their roles, the end of its form, its sound and the size of a block.
-use Rattle.std.specs.Prelude.{ℕ, ◌+◌, List, [], ◌∷◌, ◌++◌, length, ◌&&◌, codes, if◌then◌else◌}
+use Rattle.std.specs.Prelude.{ℕ, ◌+◌, List, [], ◌∷◌, ◌++◌, length, take, drop, ◌&&◌, codes, if◌then◌else◌}
+use Rattle.std.specs.List.{flat_map}
 use Rattle.part_tree.specs.Letters.{four}
 use Rattle.part_tree.specs.Names.{whole_ids}
 use Rattle.part_tree.specs.declared.names.Span.{Span}
@@ -11,7 +12,7 @@ use Rattle.carrier_model.specs.Info.{own_size, is_padding, one_of, list_run}
 use Rattle.wave_model.specs.Wave.{form_size, Wave, wave_of}
 use Rattle.wave_model.specs.Fields.{has_id, is_bext, is_info}
 use Rattle.wave_model.specs.New.{children_at}
-use Rattle.wave_model.specs.Edited.{formats, block_size}
+use Rattle.wave_model.specs.Edited.{formats, block_size, parts_of}
 
 -- ---- parts
 
@@ -65,6 +66,14 @@ parts_in w = ds64_parts w.ds64 ++ parts_behind w.ds64 (children_at w) w.children
 -- the parts of a file, in the order of reading
 abbrev pub parts_of_file : List ℕ → List Part
 parts_of_file b = parts_in (wave_of b)
+
+-- the chunks that are parts, in this order
+abbrev pub chunks_in : Wave → List Chunk
+chunks_in w = w.ds64 ++ flat_map parts_of w.children
+
+-- the bytes of a part's body in a file
+abbrev pub told_body : List ℕ → Part → List ℕ
+told_body b p = take p.body.len (drop p.body.at b)
 
 -- ---- the form, the sound and its blocks
 

@@ -2,7 +2,7 @@
 //! for `bext`; EBU Tech 3306 for RF64). It knows no device.
 #![tactic(auto)]
 
-ghost use Rattle.std.specs.Prelude.{◌≡◌, ◌≤◌, ◌-◌, ◌^◌, ◌↔◌, ◌⊎◌, ℕ, List, [], ◌∷◌, None, length, take, drop};
+ghost use Rattle.std.specs.Prelude.{◌≡◌, ◌≤◌, ◌-◌, ◌^◌, ◌↔◌, ◌⊎◌, ℕ, List, [], ◌∷◌, None, length, map, take, drop};
 ghost use Rattle.std.specs.List.{AllByRecursion};
 ghost use Rattle.part_tree.specs.declared.field.EditItem.{EditItem};
 ghost use Rattle.part_tree.specs.declared.field.FieldName.{FieldName};
@@ -16,7 +16,7 @@ ghost use Rattle.wave_model.specs.Wave.{kind_of, wave_of};
 ghost use Rattle.wave_model.specs.Fields.{fields};
 ghost use Rattle.wave_model.specs.New.{new_file, cuts_of, new_size_of, with_size};
 ghost use Rattle.wave_model.specs.Edited.{Supported, Edited, parts, sounds};
-ghost use Rattle.wave_model.specs.Map.{parts_of_file, sound};
+ghost use Rattle.wave_model.specs.Map.{parts_of_file, chunks_in, told_body, sound};
 ghost use Rattle.wave_model.specs.Large.{too_large, FormSmall};
 ghost use Rattle.wave_model.specs.Why.{why};
 ghost use Rattle.wave_model.specs.Room.{Room, patches, SoundPatches};
@@ -67,8 +67,10 @@ pub fn patches_make_the_file()
     ensures few { (o : List ℕ) (e : List EditItem) → IsBytes o → Supported o → too_large o e ≡ None → length (patches o e) ≤ 65536 }
 {}
 
-/// A reader tells as many parts of a supported file as are counted, and its sound is the body of `data`.
+/// A reader tells as many parts of a supported file as are counted; at the spans of their bodies lie the bodies of the
+/// chunks, in order; and its sound is the body of `data`.
 pub fn what_is_told()
     ensures parts { (o : List ℕ) → IsBytes o → Supported o → length (parts_of_file o) ≡ parts (wave_of o) }
+    ensures bodies { (o : List ℕ) → IsBytes o → Supported o → map (told_body o) (parts_of_file o) ≡ map (λ c. c.body) (chunks_in (wave_of o)) }
     ensures sound { (o : List ℕ) → IsBytes o → Supported o → sounds (wave_of o).children ≡ take (sound o).len (drop (sound o).at o) ∷ [] }
 {}
