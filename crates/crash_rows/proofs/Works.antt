@@ -1,0 +1,46 @@
+-- The worked plans are plans for the worked file.
+use Rattle.std.proofs.Common.{◌≡◌, inl, inr, List, refl, arith, lit<, subst, sym}
+use Rattle.part_tree.specs.declared.plan.Patch.{Patch}
+use Rattle.part_tree.specs.declared.plan.Segment.{Segment}
+use Rattle.part_tree.specs.declared.plan.Plan.TheVariants.{InPlace, Rewrite}
+use Rattle.me_disk.specs.Disk.{Disk}
+use Rattle.edit_journal.specs.Settled.{StandsAlone}
+use Rattle.file_swap.specs.Swap.{Swapping, fresh, Underway}
+use Rattle.file_swap.proofs.Installs.{begins}
+use Rattle.file_swap.specs.Plans.{CanRun, Belongs}
+use Rattle.crash_rows.specs.Worked.{file, in_place, rewrite}
+
+pub rules : CanRun in_place
+unfolding in_place
+rules = record {
+  old_fits = lit< tt;
+  new_fits = lit< tt;
+  few = omega arith;
+  order = (record { some = omega arith; after = omega arith; inside = omega arith }, (record { some = omega arith; after = omega arith; inside = omega arith }, tt));
+  small = omega arith;
+  whole = λ q past low. inr (inl (omega arith, omega arith));
+}
+
+pub in_place_belongs : Belongs in_place file
+unfolding file in_place
+in_place_belongs = record { can = rules; file = refl }
+
+pub adds_up : CanRun rewrite
+unfolding rewrite
+adds_up = record { total = refl; fits = lit< tt }
+
+pub rewrite_belongs : Belongs rewrite file
+unfolding file rewrite
+rewrite_belongs = record { can = adds_up; file = ((omega arith, (tt, (tt, (omega arith, (omega arith, (tt, tt)))))), lit< tt) }
+
+pub can_patch : (ps : List Patch) → InPlace 48 72 ps ≡ in_place → CanRun (InPlace 48 72 ps)
+can_patch ps is = subst CanRun (sym is) rules
+
+pub can_rewrite : (ss : List Segment) → Rewrite 72 ss ≡ rewrite → CanRun (Rewrite 72 ss)
+can_rewrite ss is = subst CanRun (sym is) adds_up
+
+pub in_place_begins : (s : Swapping) (d : Disk) → s ≡ fresh in_place → StandsAlone file d → Underway s file d
+in_place_begins s d is alone = subst (λ (x : Swapping). Underway x file d) (sym is) (begins d in_place file alone (λ tells. in_place_belongs))
+
+pub rewrite_begins : (s : Swapping) (d : Disk) → s ≡ fresh rewrite → StandsAlone file d → Underway s file d
+rewrite_begins s d is alone = subst (λ (x : Swapping). Underway x file d) (sym is) (begins d rewrite file alone (λ tells. rewrite_belongs))

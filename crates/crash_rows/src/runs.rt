@@ -1,0 +1,236 @@
+// Runs of a worked edit over a depot in memory.
+ghost use Rattle.std.specs.Prelude.{◌≡◌, IfOk, IsSome};
+ghost use Rattle.part_tree.specs.declared.plan.Segment.TheVariants.{Copy};
+ghost use Rattle.part_tree.specs.declared.plan.Plan.TheVariants.{InPlace, Rewrite};
+ghost use Rattle.me_disk.specs.Disk.{Only, read_as};
+ghost use Rattle.me_disk.specs.Memory.{memory_disk};
+ghost use Rattle.edit_journal.specs.Settled.{StandsAlone};
+ghost use Rattle.file_swap.specs.Swap.{fresh};
+ghost use Rattle.crash_rows.specs.Worked.{file, in_place, rewrite};
+
+use crate::bytes::{LIST, SIZE, file_bytes, journal_bytes};
+use edit_journal::{JournalFault, JournalHead, check_journal, spell_journal};
+use file_swap::Swap;
+use me_disk::{Depot, FailAt, MemoryDepot, Pick, Room, Slot};
+use part_tree::{Bytes, NoMemory, Patch, Patches, Plan, Segment, Segments, Span};
+use recovery::{RecoverFault, Recovered, recover};
+use std::alloc::Global;
+
+const AMPLE: Room = Room {
+    calls: 100,
+    bytes: 1000,
+};
+
+/// The patches of the edit in place.
+pub fn patches_in_place(alloc: Global) -> Result<Patches, NoMemory>
+    ensures { IfOk result (λ ps. InPlace 48 72 ps ≡ in_place) }
+{
+    let size = Patch {
+        at: 4,
+        bytes: Bytes::of(SIZE.to_vec(alloc)?),
+    };
+    let list = Patch {
+        at: 48,
+        bytes: Bytes::of(LIST.to_vec(alloc)?),
+    };
+    let Ok(patches) = vec![in alloc; size, list] else {
+        return Err(NoMemory);
+    };
+    Ok(Patches::new(patches))
+}
+
+/// The swap of the edit in place.
+pub fn edit_in_place(alloc: Global) -> Result<Swap, NoMemory>
+    ensures { IfOk result (λ s. s ≡ fresh in_place) }
+{
+    let patches = patches_in_place(alloc)?;
+    let plan = Plan::InPlace {
+        old_len: 48,
+        new_len: 72,
+        patches,
+    };
+    Swap::new(alloc, plan)
+}
+
+/// The journal of the edit in place.
+pub fn spell_in_place(alloc: Global) -> Result<Bytes, NoMemory> {
+    let patches = patches_in_place(alloc)?;
+    spell_journal(alloc, 48, 72, patches.as_slice())
+}
+
+fn copied(at: u64, len: u64) -> Segment
+    ensures { result ≡ Copy (record { at = at; len = len }) }
+{
+    Segment::Copy(Span { at, len })
+}
+
+fn segments(alloc: Global) -> Result<Vec<Segment>, NoMemory>
+    ensures { IfOk result (λ ss. Rewrite 72 ss.items ≡ rewrite) }
+{
+    let none = Segment::Literal(Bytes::of(Vec::new(alloc)));
+    let size = Segment::Literal(Bytes::of(SIZE.to_vec(alloc)?));
+    let list = Segment::Literal(Bytes::of(LIST.to_vec(alloc)?));
+    let all = vec![in alloc; copied(0, 4), none, size, copied(8, 0), copied(8, 40), list];
+    all.or(Err(NoMemory))
+}
+
+/// The swap of a rewrite that makes the same file.
+pub fn edit_by_rewrite(alloc: Global) -> Result<Swap, NoMemory>
+    ensures { IfOk result (λ s. s ≡ fresh rewrite) }
+{
+    let segments = segments(alloc)?;
+    let plan = Plan::Rewrite {
+        new_len: 72,
+        segments: Segments::new(segments),
+    };
+    Swap::new(alloc, plan)
+}
+
+/// A depot that holds the file, and of which these calls fail.
+pub fn depot_of(alloc: Global, failing: Vec<FailAt>) -> Result<MemoryDepot, NoMemory>
+    ensures { IfOk result (λ d. StandsAlone file (memory_disk d)) }
+{
+    let main = file_bytes(alloc)?;
+    MemoryDepot::new(alloc, Some(main), None, AMPLE, failing)
+}
+
+/// A depot that holds these, and of which these calls fail.
+pub fn depot_with(
+    alloc: Global,
+    main: Option<Vec<u8>>,
+    journal: Vec<u8>,
+    failing: Vec<FailAt>,
+) -> Result<MemoryDepot, NoMemory>
+    ensures journal { IfOk result (λ d. IsSome (memory_disk d).slots.journal) }
+    ensures only { IfOk result (λ d. Only (read_as (memory_disk d).slots) (memory_disk d)) }
+{
+    MemoryDepot::new(alloc, main, Some(journal), AMPLE, failing)
+}
+
+/// Lets every call after the n-th fail.
+pub fn stop(depot: &mut MemoryDepot, n: u64)
+    ensures alone { StandsAlone file (memory_disk depot.old) → StandsAlone file (memory_disk depot.new) }
+    ensures only { Only (read_as (memory_disk depot.old).slots) (memory_disk depot.old) → Only (read_as (memory_disk depot.new).slots) (memory_disk depot.new) }
+{
+    depot.stop_after(n);
+}
+
+/// Runs the edit in place, and says whether it was done.
+pub fn run_in_place<D: Depot>(depot: &mut D, swap: Swap) -> bool
+    requires alone { StandsAlone file (D.disk depot.old) }
+    requires swap { swap ≡ fresh in_place }
+{
+    swap.run(depot).is_ok()
+}
+
+/// Runs the rewrite, and says whether it was done.
+pub fn run_rewrite<D: Depot>(depot: &mut D, swap: Swap) -> bool
+    requires alone { StandsAlone file (D.disk depot.old) }
+    requires swap { swap ≡ fresh rewrite }
+{
+    swap.run(depot).is_ok()
+}
+
+/// The depot opened again after a crash.
+pub fn reopened(depot: MemoryDepot, pick: Pick) -> MemoryDepot
+    ensures { Only (read_as (memory_disk result).slots) (memory_disk result) }
+{
+    depot.reopen(pick)
+}
+
+/// The edit in place, stopped after n calls and opened again.
+pub fn stopped_edit(alloc: Global, n: u64, pick: Pick) -> Result<MemoryDepot, NoMemory>
+    ensures { IfOk result (λ d. Only (read_as (memory_disk d).slots) (memory_disk d)) }
+{
+    let mut depot = depot_of(alloc, Vec::new(alloc))?;
+    let swap = edit_in_place(alloc)?;
+    stop(&mut depot, n);
+    run_in_place(&mut depot, swap);
+    Ok(reopened(depot, pick))
+}
+
+/// The rewrite, stopped after n calls and opened again.
+pub fn stopped_rewrite(alloc: Global, n: u64, pick: Pick) -> Result<MemoryDepot, NoMemory>
+    ensures { IfOk result (λ d. Only (read_as (memory_disk d).slots) (memory_disk d)) }
+{
+    let mut depot = depot_of(alloc, Vec::new(alloc))?;
+    let swap = edit_by_rewrite(alloc)?;
+    stop(&mut depot, n);
+    run_rewrite(&mut depot, swap);
+    Ok(reopened(depot, pick))
+}
+
+/// A recovery that is stopped after so many calls, and the depot opened again.
+pub fn stopped_recovery(mut depot: MemoryDepot, n: u64, pick: Pick) -> MemoryDepot
+    requires { Only (read_as (memory_disk depot).slots) (memory_disk depot) }
+    ensures { Only (read_as (memory_disk result).slots) (memory_disk result) }
+{
+    stop(&mut depot, n);
+    let _ = recovery_of(&mut depot);
+    reopened(depot, pick)
+}
+
+/// What a recovery of the depot answers.
+pub fn recovery_of(depot: &mut MemoryDepot) -> Result<Recovered, RecoverFault>
+    requires { Only (read_as (memory_disk depot.old).slots) (memory_disk depot.old) }
+{
+    recover(depot)
+}
+
+/// Whether a recovery is done, and leaves this file alone.
+pub fn is_recovered(mut depot: MemoryDepot, want: &[u8]) -> bool
+    requires { Only (read_as (memory_disk depot).slots) (memory_disk depot) }
+{
+    recovery_of(&mut depot).is_ok() && holds_alone(&depot, want)
+}
+
+/// Whether the depot holds this file and nothing else.
+pub fn holds_alone(depot: &MemoryDepot, want: &[u8]) -> bool {
+    match depot.content(Slot::Main) {
+        Some(main) => main == want && !has(depot, Slot::Journal) && !has(depot, Slot::Work),
+        None => false,
+    }
+}
+
+fn has(depot: &MemoryDepot, slot: Slot) -> bool {
+    depot.content(slot).is_some()
+}
+
+/// What a check answers for a journal beside a file of so many bytes, or beside none.
+pub fn check_of(
+    alloc: Global,
+    len: Option<usize>,
+    journal: Vec<u8>,
+) -> Result<Result<JournalHead, JournalFault>, NoMemory> {
+    let main = match len {
+        Some(len) => Some(vec![in alloc; 0; len]?),
+        None => None,
+    };
+    let mut depot = depot_with(alloc, main, journal, Vec::new(alloc))?;
+    Ok(check_journal(&mut depot))
+}
+
+/// A depot that holds the file and its journal, and of which one call fails.
+pub fn broken_off(alloc: Global, failing: Vec<FailAt>) -> Result<MemoryDepot, NoMemory>
+    ensures { IfOk result (λ d. Only (read_as (memory_disk d).slots) (memory_disk d)) }
+{
+    let main = file_bytes(alloc)?;
+    let journal = journal_bytes(alloc)?;
+    depot_with(alloc, Some(main), journal, failing)
+}
+
+/// The edit in place of which one call fails, and whether it was done.
+pub fn failing_edit(alloc: Global, failing: Vec<FailAt>) -> Result<(MemoryDepot, bool), NoMemory> {
+    let mut depot = depot_of(alloc, failing)?;
+    let swap = edit_in_place(alloc)?;
+    let done = run_in_place(&mut depot, swap);
+    Ok((depot, done))
+}
+
+/// The rewrite, and whether it was done.
+pub fn whole_rewrite(alloc: Global) -> Result<(MemoryDepot, bool), NoMemory> {
+    let mut depot = depot_of(alloc, Vec::new(alloc))?;
+    let swap = edit_by_rewrite(alloc)?;
+    let done = run_rewrite(&mut depot, swap);
+    Ok((depot, done))
+}
