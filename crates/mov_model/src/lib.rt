@@ -1,7 +1,7 @@
 //! The laws of an edit of a QuickTime movie.
 #![tactic(auto)]
 
-ghost use Rattle.std.specs.Prelude.{◌≡◌, ◌≤◌, ◌⊎◌, ◌^◌, ◌-◌, ℕ, List, [], ◌++◌, length, take, drop, Some, None};
+ghost use Rattle.std.specs.Prelude.{◌≡◌, ◌≤◌, ◌⊎◌, ◌^◌, ◌-◌, ℕ, List, [], ◌++◌, length, map, take, drop, Some, None};
 ghost use Rattle.me_bytes.specs.Bytes.{IsBytes};
 ghost use Rattle.container_model.specs.Splice.{Ascend, splice};
 ghost use Rattle.container_model.specs.Items.{Item};
@@ -11,6 +11,7 @@ ghost use Rattle.mov_model.specs.New.{edited_file, new_movie, laid_movie, overla
 ghost use Rattle.mov_model.specs.Edited.{Edited, changes, fields, new_file};
 ghost use Rattle.mov_model.specs.Support.{Supported};
 ghost use Rattle.mov_model.specs.Pieces.{held};
+ghost use Rattle.mov_model.specs.Samples.{samples_in};
 ghost use Rattle.mov_model.specs.Why.{why};
 ghost use Rattle.part_tree.specs.declared.field.EditItem.{EditItem};
 ghost use Rattle.part_tree.specs.declared.field.RuleSet.TheVariants.{Base};
@@ -79,4 +80,9 @@ pub fn new_is_no_larger()
 /// Texts whose lengths and languages fit are read as they are written.
 pub fn texts_are_read_again()
     ensures { (ts : List Value) → AllByRecursion TextFits ts → texts (flat_map text_bytes ts) ≡ ts }
+{}
+
+/// Each sample that is named has as many bytes as the table of sizes tells.
+pub fn samples_are_whole()
+    ensures { (n : ℕ) (sizes tail : List ℕ) → map (λ (x : List ℕ). length x) (samples_in n sizes tail) ≡ take (length (samples_in n sizes tail)) sizes }
 {}
