@@ -161,7 +161,7 @@ mod tests {
     const BODY: &[u8] = b"INAM\x01\0\0\0A\0INAM\x02\0\0\0B\0ICRD\x05\0\0\x002024\0\0abc";
 
     #[test]
-    fn reads_and_spells(rt: HostRuntime) -> Result<(), Fail> {
+    fn reads(rt: HostRuntime) -> Result<(), Fail> {
         let list = read_info(rt.alloc(), BODY)?;
         let items = list.items.as_slice();
         assert_eq!(rt; items.len(), 3);
@@ -169,11 +169,6 @@ mod tests {
         assert_eq!(rt; items[1].raw.as_slice(), b"B\0".as_slice());
         assert_eq!(rt; items[2].raw.as_slice(), b"2024\0".as_slice());
         assert_eq!(rt; list.rest.as_slice(), b"abc".as_slice());
-        let spelled = spell_info(rt.alloc(), &list)?;
-        assert_eq!(rt;
-            spelled.as_slice(),
-            b"LIST\x29\0\0\0INFOINAM\x01\0\0\0A\0INAM\x02\0\0\0B\0ICRD\x05\0\0\x002024\0\0abc\0".as_slice()
-        );
         Ok(())
     }
 
