@@ -1,13 +1,13 @@
 -- Hexadecimal digits and the bytes that they write.
-use Rattle.std.proofs.Common.{◌≡◌, ℕ, zero, suc, ◌+◌, ◌-◌, ◌*◌, ◌/◌, ◌%◌, ◌<◌, ◌≤◌, List, [], ◌∷◌, ◌++◌, length, get_or, drop, take, set, Bool, true, false, ◌&&◌, ◌==◌, ◌||◌, refl, sym, ap, ◌∙◌, arith, nat_lt, inl, inr, if◌then◌else◌, append_assoc}
+use Rattle.std.proofs.Common.{◌≡◌, ℕ, zero, suc, ◌+◌, ◌*◌, ◌/◌, ◌%◌, ◌<◌, ◌≤◌, List, [], ◌∷◌, ◌++◌, length, get_or, drop, take, set, Bool, true, ◌==◌, ◌||◌, refl, sym, ap, ◌∙◌, arith, inl, inr, if◌then◌else◌, append_assoc}
 use Rattle.std.specs.Prelude.{◌⊎◌}
 use Rattle.std.specs.Int.{is_in_range}
-use Rattle.std.specs.List.{list_all, flat_map}
+use Rattle.std.specs.List.{list_all}
 use Rattle.std.specs.Char.{is_ascii_hexdigit, digit_value}
 use Rattle.std.specs.Fmt.{digit_glyph}
-use Rattle.std.proofs.lemmas.Bool.{and_parts, or_cases, leb-true, lt-ltb, le-ltb, eq-eqb, ne_eqb}
+use Rattle.std.proofs.lemmas.Bool.{and_parts, or_cases, leb-true, lt-ltb, le-ltb}
 use Rattle.std.proofs.lemmas.List.{at_drop_more, take_more_set, length-drop, append-nil}
-use Rattle.field_model.specs.Numbers.{hex, hex_bytes, hex_text}
+use Rattle.field_model.specs.Numbers.{hex_bytes, hex_text}
 
 between : (low high x : ℕ) → is_in_range low high x ≡ true → (low ≤ x) × (x ≤ high)
 between low high x h = let p = and_parts _ _ h in (leb-true low x p.0, leb-true x high p.1)

@@ -1,13 +1,11 @@
 -- Lawful fields tell their version in two bytes.
-use Rattle.std.proofs.Common.{◌≡◌, ℕ, ◌<◌, List, [], ◌∷◌, length, get_or, refl, sym, ap, ◌∙◌, arith, inl, inr, subst}
-use Rattle.std.specs.Prelude.{◌⊎◌}
-use Rattle.part_tree.specs.declared.field.BextField.{BextField}
+use Rattle.std.proofs.Common.{◌≡◌, ℕ, ◌<◌, List, [], ◌∷◌, length, get_or, refl, ap, ◌∙◌, arith, inl, inr}
 use Rattle.part_tree.specs.declared.field.BextField.TheVariants.{Version}
 use Rattle.part_tree.specs.declared.field.FieldName.TheVariants.{Bext}
 use Rattle.part_tree.specs.declared.field.Value.{Value}
 use Rattle.field_model.specs.Body.{FillsRange}
 use Rattle.field_model.specs.Fields.{FieldMap, first_raw}
-use Rattle.field_model.specs.Lawful.{HasOne, IsLawful}
+use Rattle.field_model.specs.Lawful.{IsLawful}
 
 fills_two : (raw : List ℕ) → FillsRange Version raw → length raw ≡ 2
 fills_two raw (inl e) = absurd (omega (arith, e))

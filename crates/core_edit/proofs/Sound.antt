@@ -1,11 +1,10 @@
 -- Items of which none is faulty are sound.
-use Rattle.std.proofs.Common.{◌≡◌, ℕ, suc, List, [], ◌∷◌, ◌++◌, Bool, true, false, ◌||◌, refl, sym, ap, ◌∙◌, Option, Some, None, if◌then◌else◌}
-use Rattle.std.specs.List.{list_any}
+use Rattle.std.proofs.Common.{◌≡◌, ℕ, suc, List, [], ◌∷◌, ◌++◌, Bool, true, false, ◌||◌, refl, sym, ap, ◌∙◌, Some, None, if◌then◌else◌}
 use Rattle.std.proofs.lemmas.Bool.{or_parts, or_from, false≢true}
 use Rattle.part_tree.specs.declared.field.EditItem.{EditItem}
 use Rattle.part_tree.specs.declared.field.FieldName.{FieldName}
 use Rattle.part_tree.specs.Names.{same_name}
-use Rattle.core_edit.specs.Edits.{AreNamed, AreSound, Wrong, is_empty_set, names_one, twice, empty, wrong, wrong_from}
+use Rattle.core_edit.specs.Edits.{AreNamed, AreSound, is_empty_set, names_one, twice, empty, wrong_from}
 use Rattle.part_tree.proofs.Places.{same_is_equal, same_refl}
 
 -- where nothing is wrong, the first item is new and not empty, and nothing is wrong behind it

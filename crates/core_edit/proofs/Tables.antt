@@ -1,5 +1,5 @@
 -- The rows of bext, found by their fields.
-use Rattle.std.proofs.Common.{◌≡◌, ℕ, List, get_or, refl, ap, ◌∙◌, Option, Some, None}
+use Rattle.std.proofs.Common.{◌≡◌, ℕ, get_or, ap, Option, Some}
 use Rattle.std.specs.Prelude.{position, unwrap_or}
 use Rattle.part_tree.specs.declared.field.BextField.{BextField}
 use Rattle.part_tree.specs.declared.field.BextField.TheVariants.{Description, Originator, OriginatorReference, OriginationDate, OriginationTime, TimeReference, Version, Umid, LoudnessValue, LoudnessRange, MaxTruePeakLevel, MaxMomentaryLoudness, MaxShortTermLoudness, Reserved, CodingHistory}

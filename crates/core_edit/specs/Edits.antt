@@ -1,5 +1,5 @@
 -- The items of an edit: no field twice, no empty text, and each name one that a text names.
-use Rattle.std.specs.Prelude.{◌≡◌, ℕ, suc, List, [], ◌∷◌, ◌++◌, length, Bool, true, false, ◌==◌, is_some, if◌then◌else◌, Option, Some, None, IsTrue, Result, Ok, Err}
+use Rattle.std.specs.Prelude.{◌≡◌, ℕ, suc, List, [], ◌∷◌, ◌++◌, length, Bool, false, ◌==◌, is_some, if◌then◌else◌, Option, Some, None, IsTrue}
 use Rattle.std.specs.List.{list_any, AllByRecursion}
 use Rattle.part_tree.specs.declared.field.Change.{Change}
 use Rattle.part_tree.specs.declared.field.Change.TheVariants.{Set, Remove}

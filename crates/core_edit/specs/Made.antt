@@ -1,5 +1,5 @@
 -- What a new edit answers.
-use Rattle.std.specs.Prelude.{◌≡◌, List, Option, Some, None, Result, Ok, Err}
+use Rattle.std.specs.Prelude.{◌≡◌, List, Some, None, Result, Ok, Err}
 use Rattle.part_tree.specs.declared.field.EditItem.{EditItem}
 use Rattle.core_edit.specs.declared.edit.EditFault.{EditFault}
 use Rattle.core_edit.specs.declared.edit.EditFault.TheVariants.{Twice, Empty, Memory}

@@ -1,10 +1,10 @@
 // Worked rows.
-use crate::{Change, EditItem, field_name, name_text, raw_of, shown, text_rule};
-use part_tree::{BextField, Bytes, FieldName, Fields, FourCc, Value};
+use crate::{ShownText, field_name, name_text, raw_of, shown_text, text_rule};
+use part_tree::{BextField, FieldName, FourCc};
 use std::test::Fail;
 
 #[test]
-fn names(rt: HostRuntime) -> Result<(), Fail> {
+fn names(rt: HostRuntime) {
     let rows: [(&str, Option<FieldName>); 9] = [
         ("INAM", Some(FieldName::Info(FourCc(*b"INAM")))),
         ("inam", None),
@@ -18,11 +18,13 @@ fn names(rt: HostRuntime) -> Result<(), Fail> {
     ];
     for (text, name) in rows.iter() {
         assert!(rt; field_name(text.as_bytes()) == *name);
-        if let Some(name) = name {
-            let bytes = name_text(rt.alloc(), name)?;
-            assert_eq!(rt; bytes.as_ref().map(|b| b.as_slice()), Some(text.as_bytes()));
-        }
     }
+}
+
+#[test]
+fn name_of_a_chunk(rt: HostRuntime) -> Result<(), Fail> {
+    let text = name_text(rt.alloc(), &FieldName::Whole(FourCc(*b"_PMX")))?.expect(&rt, "a text");
+    assert_eq!(rt; text.as_slice(), b"XMP".as_slice());
     Ok(())
 }
 
@@ -81,36 +83,12 @@ fn spellings(rt: HostRuntime) -> Result<(), Fail> {
 
 #[test]
 fn texts(rt: HostRuntime) -> Result<(), Fail> {
-    let mut fields = Fields::new(rt.alloc());
-    fields.add(
-        FieldName::Bext(BextField::Version),
-        Value {
-            lang: 0,
-            raw: Bytes::new(rt.alloc(), &[2, 0])?,
-        },
-    )?;
-    let rows: [(&str, &[u8], Option<&[u8]>); 8] = [
-        (
-            "Originator",
-            b"Archive\0x\0\0\0\0\0\0\0\0\0\0\0\0\0\0\0\0\0\0\0\0\0\0\0",
-            Some(b"Archive"),
-        ),
-        ("TimeReference", b"\x02\x01\0\0\0\0\0\0", Some(b"258")),
-        ("LoudnessValue", b"\x04\xf7", Some(b"-23.00")),
-        ("LoudnessValue", b"\xff\x7f", None),
-        ("LoudnessRange", b"\x05\0", Some(b"0.05")),
-        ("MD5", b"\x90\x0f", Some(b"900f")),
-        ("INAM", b"", Some(b"")),
-        ("Version", b"\x02\0", Some(b"2")),
-    ];
-    for (text, raw, seen) in rows.iter() {
-        let name = field_name(text.as_bytes()).expect(&rt, "a name");
-        let value = Value {
-            lang: 0,
-            raw: Bytes::new(rt.alloc(), raw)?,
-        };
-        let shown = shown(rt.alloc(), &fields, &name, &value)?;
-        assert_eq!(rt; shown.as_ref().map(|b| b.as_slice()), *seen);
-    }
+    let loudness = FieldName::Bext(BextField::LoudnessValue);
+    let text = shown_text(2, &loudness, &[0x04, 0xf7]).expect(&rt, "a text");
+    assert_eq!(rt; text.to_bytes(rt.alloc())?.as_slice(), b"-23.00".as_slice());
+    let small = shown_text(2, &loudness, &[5, 0]).expect(&rt, "a text");
+    assert!(rt; small.is(&ShownText::Plain(b"0.05")));
+    assert!(rt; shown_text(2, &loudness, &[0xff, 0x7f]).is_none());
+    assert!(rt; shown_text(1, &loudness, &[5, 0]).is_none());
     Ok(())
 }

@@ -1,4 +1,4 @@
-use Rattle.std.proofs.Common.{sym, ◌∙◌, ap, arith, ◌&&◌}
+use Rattle.std.proofs.Common.{sym}
 use Rattle.core_edit.proofs.Texts.{form_other}
 use Rattle.core_edit.proofs.date.has_form.Goals as goal
 

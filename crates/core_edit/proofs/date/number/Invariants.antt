@@ -1,4 +1,4 @@
-use Rattle.std.proofs.Common.{◌≡◌, ◌≤◌, drop, get_or, ◌∷◌, []}
+use Rattle.std.proofs.Common.{◌≡◌, ◌≤◌, drop}
 use Rattle.std.specs.Str.Parse.{digits_value, digits_value_after}
 use Rattle.core_edit.proofs.Texts.{most}
 use Rattle.core_edit.proofs.date.number.Given as goal

@@ -1,4 +1,4 @@
-use Rattle.std.proofs.Common.{◌≡◌, ◌<◌, ◌^◌, ℕ, List, sym, subst}
+use Rattle.std.proofs.Common.{◌<◌, ◌^◌, ℕ, List, sym, subst}
 use Rattle.std.specs.Str.Parse.{IsNumeral, digits_value, without_leading_plus}
 use Rattle.core_edit.proofs.Letters.{not_parsed, numeral_utf8}
 use Rattle.core_edit.proofs.number.count_of.Goals as goal

@@ -1,4 +1,4 @@
-use Rattle.std.proofs.Common.{◌≡◌, ◌<◌, ◌≤◌, ◌+◌, ◌*◌, ◌/◌, ℕ, List, sym, ◌∙◌, ap, arith, length, take, Some, None}
+use Rattle.std.proofs.Common.{◌≡◌, ◌/◌, ℕ, sym, ◌∙◌, ap, arith, take, Some}
 use Rattle.std.proofs.lemmas.Bool.{cond-true}
 use Rattle.std.proofs.lemmas.List.{length-set}
 use Rattle.field_model.specs.Numbers.{hex_bytes, is_hex}

@@ -1,4 +1,4 @@
-use Rattle.std.proofs.Common.{◌≡◌, ◌∙◌, ◌==◌, arith, ap, eq-eqb}
+use Rattle.std.proofs.Common.{◌∙◌, ◌==◌, arith, eq-eqb}
 use Rattle.part_tree.proofs.Words.{first_is, none_is}
 use Rattle.core_edit.proofs.number.point_place.Goals as goal
 

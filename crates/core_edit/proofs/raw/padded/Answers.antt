@@ -1,4 +1,4 @@
-use Rattle.std.proofs.Common.{◌≡◌, ◌∙◌, sym, ap, ◌++◌, List, ℕ, arith, Some, take, replicate}
+use Rattle.std.proofs.Common.{◌≡◌, ◌∙◌, ap, ◌++◌, List, ℕ, arith, Some, take, replicate}
 use Rattle.core_edit.proofs.Texts.{take_zeros}
 use Rattle.core_edit.proofs.raw.padded.Goals as goal
 

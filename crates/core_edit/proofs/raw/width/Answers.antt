@@ -1,4 +1,4 @@
-use Rattle.std.proofs.Common.{◌≡◌, ◌∙◌, sym}
+use Rattle.std.proofs.Common.{◌∙◌, sym}
 use Rattle.core_edit.proofs.Tables.{found_width}
 use Rattle.core_edit.proofs.raw.width.Goals as goal
 

@@ -1,5 +1,5 @@
 use Rattle.std.proofs.Common.{◌≡◌, drop, ◌==◌, ◌||◌, ◌&&◌}
-use Rattle.std.specs.List.{list_any, list_all}
+use Rattle.std.specs.List.{list_all}
 use Rattle.field_model.specs.Rules.{is_printable}
 use Rattle.core_edit.proofs.rule.are_bext_letters.Given as goal
 

@@ -1,4 +1,4 @@
-use Rattle.std.proofs.Common.{◌≡◌, ◌∙◌, arith, ap, Some, false}
+use Rattle.std.proofs.Common.{◌∙◌, arith, ap, Some, false}
 use Rattle.bext_fields.proofs.Found.{found, not_found}
 use Rattle.core_edit.proofs.rule.first_true.Goals as goal
 

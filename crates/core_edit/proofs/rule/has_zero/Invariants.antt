@@ -1,5 +1,5 @@
-use Rattle.std.proofs.Common.{◌≡◌, drop, ◌==◌, ◌||◌, ◌&&◌}
-use Rattle.std.specs.List.{list_any, list_all}
+use Rattle.std.proofs.Common.{◌≡◌, drop, ◌==◌}
+use Rattle.std.specs.List.{list_any}
 use Rattle.core_edit.proofs.rule.has_zero.Given as goal
 
 -- the bytes from here on decide

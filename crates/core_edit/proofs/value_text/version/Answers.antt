@@ -1,6 +1,5 @@
-use Rattle.std.proofs.Common.{◌≡◌, ◌<◌, sym, ◌∙◌, ap, arith, length, ℕ, List}
+use Rattle.std.proofs.Common.{◌<◌, sym, ◌∙◌, ap, arith, length, ℕ, List}
 use Rattle.me_bytes.specs.Bytes.{le}
-use Rattle.part_tree.specs.declared.field.Value.{Value}
 use Rattle.part_tree.specs.Fields.{values}
 use Rattle.field_model.specs.Fields.{first_raw}
 use Rattle.core_edit.proofs.Lawful.{first_two, first_is}
