@@ -5,10 +5,10 @@ use me_bytes::NoMemory;
 use me_disk::{PathDepot, StdSink, StdSource};
 use metaedit_top::{Word, code, line_of, metaedit};
 use std::alloc::Global;
+use std::env;
 use std::io::Write;
 use std::process::ExitCode;
 use std::rt::Env;
-use std::env;
 
 // The status where `main` itself finds no memory.
 const NO_MEMORY: u8 = 12;
