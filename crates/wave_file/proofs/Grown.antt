@@ -1,0 +1,245 @@
+-- The values of a map, one chunk more.
+use Rattle.std.proofs.Common.{◌≡◌, ◌≢◌, ◌∙◌, ℕ, zero, suc, ◌+◌, ◌-◌, ◌<◌, ◌≤◌, Bool, true, false, eqb, ltb, List, [], ◌∷◌, ◌++◌, length, map, take, drop, get_or, refl, sym, ap, subst, arith, append_assoc, inl, inr, length-take, length-drop}
+use Rattle.std.specs.Prelude.{if◌then◌else◌, codes, ◌&&◌, ◌==◌, nat_lt, ◌⊎◌}
+use Rattle.std.specs.Str.{bytes_eq}
+use Rattle.std.specs.List.{flat_map}
+use Rattle.std.proofs.lemmas.Bool.{lt-ltb, le-ltb, eqb-true, eqb-false, cases_lt}
+use Rattle.std.proofs.lemmas.List.{append-nil, map-append, at_drop_more, at_drop_all}
+use Rattle.container_model.specs.Chunk.{Chunk}
+use Rattle.container_model.specs.Items.{values_in}
+use Rattle.container_model.specs.Items as items
+use Rattle.carrier_model.specs.Info.{own_size, one_of, info, info_items, list_run}
+use Rattle.part_tree.specs.Letters.{four}
+use Rattle.part_tree.specs.declared.names.FourCc.{FourCc}
+use Rattle.part_tree.specs.declared.field.BextField.{BextField}
+use Rattle.part_tree.specs.declared.field.FieldName.{FieldName}
+use Rattle.part_tree.specs.declared.field.FieldName.TheVariants.{Bext, Info, Whole, User}
+use Rattle.part_tree.specs.declared.field.Value.{Value}
+use Rattle.part_tree.specs.declared.fields.Entry.{Entry}
+use Rattle.part_tree.specs.Fields.{values, Adds}
+use Rattle.part_tree.specs.Names.{same_name, whole_ids, info_ids, bext_row}
+use Rattle.part_tree.proofs.Places.{same_is_equal, bytes_same, bytes_refl, row_small}
+use Rattle.field_model.specs.Bext.{range_of, range_at, range_len, width}
+use Rattle.field_model.specs.Body.{FillsRange}
+use Rattle.field_model.specs.Fields.{FieldMap, plain}
+use Rattle.field_model.proofs.Ranges.{fixed_len, before_rest}
+use Rattle.info_list.specs.declared.InfoItem.{InfoItem}
+use Rattle.info_list.specs.Info.{item_of}
+use Rattle.wave_model.specs.Fields.{is_bext, is_info, is_whole, body_in, fields_of}
+use Rattle.wave_model.proofs.Values.{eq_sym}
+use Rattle.wave_file.specs.Lawful.{HasNoBext, HasBext, HasRange}
+use Rattle.wave_file.specs.Map.{is_field}
+use Rattle.wave_file.specs.Reads.{Grows, ranges_below, item_value, item_values, items_held}
+
+-- ---- one value more
+
+abbrev pub one : FieldName → Value → FieldMap
+one name v n = if same_name name n then v ∷ [] else []
+
+pub added : (old new : List Entry) (name : FieldName) (v : Value) → Adds old new name v → Grows old new (one name v)
+added old new name v a n = go (same_name name n) refl
+  where
+    go : (t : Bool) → same_name name n ≡ t → values new n ≡ values old n ++ (if t then v ∷ [] else [])
+    go true e = let P : FieldName → Type 0 = λ m. values new m ≡ values old m ++ v ∷ [] in subst P (same_is_equal name n e) a.last
+    go false e = a.others n e ∙ sym (append-nil (values old n))
+
+pub grown_on : (a b c : List Entry) (f g h : FieldMap) → Grows a b f → Grows b c g → ((n : FieldName) → f n ++ g n ≡ h n) → Grows a c h
+grown_on a b c f g h x y e n = y n ∙ ap (λ (vs : List Value). vs ++ g n) (x n) ∙ append_assoc (values a n) (f n) (g n) ∙ ap (λ (vs : List Value). values a n ++ vs) (e n)
+
+pub grown_as : (a b : List Entry) (f g : FieldMap) → Grows a b f → ((n : FieldName) → f n ≡ g n) → Grows a b g
+grown_as a b f g x e n = x n ∙ ap (λ (vs : List Value). values a n ++ vs) (e n)
+
+pub not_grown : (a : List Entry) (f : FieldMap) → ((n : FieldName) → f n ≡ []) → Grows a a f
+not_grown a f e n = sym (append-nil (values a n)) ∙ ap (λ (vs : List Value). values a n ++ vs) (sym (e n))
+
+-- ---- the ranges of `bext`
+
+next_range : (k r : ℕ) (v : ℕ → Value) → (if nat_lt r k then v r ∷ [] else []) ++ (if k == r then v k ∷ [] else []) ≡ (if nat_lt r (k + 1) then v r ∷ [] else [])
+next_range k r v = go (eqb k r) refl (ltb r k) refl (ltb r (k + 1)) refl
+  where
+    go : (t : Bool) → eqb k r ≡ t → (u : Bool) → ltb r k ≡ u → (w : Bool) → ltb r (k + 1) ≡ w → (if u then v r ∷ [] else []) ++ (if t then v k ∷ [] else []) ≡ (if w then v r ∷ [] else [])
+    go true e true f w h = absurd (omega (arith, eqb-true k r e, Rattle.std.proofs.lemmas.Bool.ltb-true r k f))
+    go true e false f true h = ap (λ (n : ℕ). v n ∷ []) (eqb-true k r e)
+    go true e false f false h = absurd (omega (arith, eqb-true k r e, Rattle.std.proofs.lemmas.Bool.ltb-false r (k + 1) h))
+    go false e true f true h = refl
+    go false e true f false h = absurd (omega (arith, Rattle.std.proofs.lemmas.Bool.ltb-true r k f, Rattle.std.proofs.lemmas.Bool.ltb-false r (k + 1) h))
+    go false e false f true h = absurd (eqb-false k r e (omega (arith, Rattle.std.proofs.lemmas.Bool.ltb-false r k f, Rattle.std.proofs.lemmas.Bool.ltb-true r (k + 1) h)))
+    go false e false f false h = refl
+
+pub range_added : (old mid new : List Entry) (k : ℕ) (field : BextField) (v : Value) (body : List ℕ) → bext_row field ≡ k → v ≡ plain (range_of k body) → Grows old mid (ranges_below k body) → Adds mid new (Bext field) v
+    → Grows old new (ranges_below (k + 1) body)
+range_added old mid new k field v body row is so_far a = grown_on old mid new (ranges_below k body) (one (Bext field) v) (ranges_below (k + 1) body) so_far (added mid new (Bext field) v a) next
+  where
+    next : (n : FieldName) → ranges_below k body n ++ one (Bext field) v n ≡ ranges_below (k + 1) body n
+    next (Bext f) =
+        ap (λ (x : ℕ). ranges_below k body (Bext f) ++ (if x == bext_row f then v ∷ [] else [])) row
+        ∙ ap (λ (x : Value). ranges_below k body (Bext f) ++ (if k == bext_row f then x ∷ [] else [])) is
+        ∙ next_range k (bext_row f) (λ r. plain (range_of r body))
+    next (Info id) = refl
+    next (Whole id) = refl
+    next (User id) = refl
+
+pub none_below : (old : List Entry) (body : List ℕ) → Grows old old (ranges_below 0 body)
+none_below old body = not_grown old (ranges_below 0 body) none
+  where
+    none : (n : FieldName) → ranges_below 0 body n ≡ []
+    none (Bext f) = ap (λ (t : Bool). if t then plain (range_of (bext_row f) body) ∷ [] else []) (le-ltb (bext_row f) 0 (omega arith))
+    none (Info id) = refl
+    none (Whole id) = refl
+    none (User id) = refl
+
+all_below : (field : BextField) (body : List ℕ) → ranges_below 15 body (Bext field) ≡ plain (range_of (bext_row field) body) ∷ []
+all_below field body = ap (λ (t : Bool). if t then plain (range_of (bext_row field) body) ∷ [] else []) (lt-ltb (bext_row field) 15 (row_small field))
+
+range_fills : (field : BextField) (body : List ℕ) → 602 ≤ length body → FillsRange field (range_of (bext_row field) body)
+range_fills field body long = go (cases_lt (bext_row field) 14)
+  where
+    go : (bext_row field < 14) ⊎ (14 ≤ bext_row field) → FillsRange field (range_of (bext_row field) body)
+    go (inl lt) =
+        let k = bext_row field in
+        let n = length body in
+        let size = length-take (range_len k n) (drop (range_at k n) body) in
+        let from = length-drop (range_at k n) body in
+        inr (omega (arith, size, from, before_rest k n lt, fixed_len k 0 n lt))
+    go (inr le) = inl (omega (arith, row_small field))
+
+pub has_bext : (old new : List Entry) (body : List ℕ) → 602 ≤ length body → Grows old new (ranges_below 15 body) → HasNoBext old → HasBext new
+has_bext old new body long grown none field = record {
+  value = plain (range_of (bext_row field) body);
+  only = grown (Bext field) ∙ ap (λ (vs : List Value). vs ++ ranges_below 15 body (Bext field)) (none field) ∙ all_below field body;
+  fills = range_fills field body long;
+}
+
+-- ---- items
+
+items_more : (i : InfoItem) (is : List InfoItem) (n : FieldName) → items_held (i ∷ is) n ≡ items_held (i ∷ []) n ++ items_held is n
+items_more i is (Bext f) = refl
+items_more i is (Info id) =
+    map-append plain (item_value id.0 i) (item_values id.0 is) ∙ ap (λ (x : List (List ℕ)). map plain x ++ map plain (item_values id.0 is)) (sym (append-nil (item_value id.0 i)))
+items_more i is (Whole id) = refl
+items_more i is (User id) = refl
+
+-- the values that are there and those of the items that are left are the whole
+abbrev pub ItemsLeft : List Entry → List Entry → List InfoItem → List InfoItem → Type 0
+ItemsLeft now old rest whole = (n : FieldName) → values now n ++ items_held rest n ≡ values old n ++ items_held whole n
+
+pub item_next : (old now new : List Entry) (is whole : List InfoItem) (k : ℕ) (i : InfoItem) → k < length is → i ≡ get_or is k i → Grows now new (items_held (i ∷ [])) → ItemsLeft now old (drop k is) whole
+    → ItemsLeft new old (drop (k + 1) is) whole
+item_next old now new is whole k i lt here grown left n =
+    let rest = items_held (drop (k + 1) is) n in
+    let step : items_held (drop k is) n ≡ items_held (i ∷ []) n ++ rest
+    = at_drop_more (λ (xs : List InfoItem). items_held xs n) is k i lt ∙ ap (λ (x : InfoItem). items_held (x ∷ drop (k + 1) is) n) (sym here) ∙ items_more i (drop (k + 1) is) n in
+    ap (λ (vs : List Value). vs ++ rest) (grown n) ∙ append_assoc (values now n) (items_held (i ∷ []) n) rest ∙ ap (λ (vs : List Value). values now n ++ vs) (sym step) ∙ left n
+
+no_items : (n : FieldName) → items_held [] n ≡ []
+no_items (Bext f) = refl
+no_items (Info id) = refl
+no_items (Whole id) = refl
+no_items (User id) = refl
+
+pub items_end : (old now : List Entry) (is whole : List InfoItem) (k : ℕ) → length is ≤ k → ItemsLeft now old (drop k is) whole → Grows old now (items_held whole)
+items_end old now is whole k le left n =
+    sym (append-nil (values now n)) ∙ ap (λ (vs : List Value). values now n ++ vs) (sym (at_drop_all (λ (xs : List InfoItem). items_held xs n) is k le ∙ no_items n)) ∙ left n
+
+pub item_added : (old new : List Entry) (i : InfoItem) (v : Value) → one_of info_ids i.id.0 ≡ true → v ≡ plain i.raw → Adds old new (Info i.id) v → Grows old new (items_held (i ∷ []))
+item_added old new i v there is a = grown_as old new (one (Info i.id) v) (items_held (i ∷ [])) (added old new (Info i.id) v a) same
+  where
+    same : (n : FieldName) → one (Info i.id) v n ≡ items_held (i ∷ []) n
+    same (Bext f) = refl
+    same (Info id) =
+        ap (λ (t : Bool). if t then v ∷ [] else []) (eq_sym i.id.0 id.0)
+        ∙ ap (λ (x : Value). if bytes_eq id.0 i.id.0 then x ∷ [] else []) is
+        ∙ go (bytes_eq id.0 i.id.0) (one_of info_ids i.id.0) there
+      where
+        go : (t u : Bool) → u ≡ true → (if t then plain i.raw ∷ [] else []) ≡ map plain ((if t then (if u then i.raw ∷ [] else []) else []) ++ [])
+        go true true e = refl
+        go false true e = refl
+        go t false e = absurd cc
+    same (Whole id) = refl
+    same (User id) = refl
+
+pub item_passed : (old : List Entry) (i : InfoItem) → one_of info_ids i.id.0 ≡ false → Grows old old (items_held (i ∷ []))
+item_passed old i other = not_grown old (items_held (i ∷ [])) none
+  where
+    none : (n : FieldName) → items_held (i ∷ []) n ≡ []
+    none (Bext f) = refl
+    none (Info id) = go (bytes_eq id.0 i.id.0) (one_of info_ids i.id.0) other
+      where
+        go : (t u : Bool) → u ≡ false → map plain ((if t then (if u then i.raw ∷ [] else []) else []) ++ []) ≡ []
+        go true false e = refl
+        go false false e = refl
+        go t true e = absurd cc
+    none (Whole id) = refl
+    none (User id) = refl
+
+held_values : (id : List ℕ) (cs : List Chunk) → item_values id (map item_of cs) ≡ items.values info_items id cs
+held_values id [] = refl
+held_values id (c ∷ cs) = ap (λ (x : List (List ℕ)). values_in info_items id c ++ x) (held_values id cs)
+
+-- ---- the fields of a chunk
+
+-- what a chunk holds
+pub record Holding (c : Chunk) (list whole ranges : Bool) : Type 0 where
+  pub list_is : is_info c ≡ list
+  pub whole_is : is_field c ≡ whole
+  pub ranges_is : is_bext c ≡ ranges
+
+no_whole : (c : Chunk) (w : List ℕ) → is_field c ≡ false → is_whole w c ≡ false
+no_whole c w e = go (own_size c.form) (bytes_eq w c.id) refl e
+  where
+    go : (o t : Bool) → bytes_eq w c.id ≡ t → (o && one_of whole_ids c.id) ≡ false → (o && (one_of whole_ids w && t)) ≡ false
+    go false t h i = refl
+    go true true h i = ap (λ (x : Bool). x && true) (ap (one_of whole_ids) (bytes_same w c.id h) ∙ i)
+    go true false h i = go_false (one_of whole_ids w)
+      where
+        go_false : (x : Bool) → (x && false) ≡ false
+        go_false true = refl
+        go_false false = refl
+
+holds_none : (c : Chunk) (n : FieldName) → Holding c false false false → fields_of (c ∷ []) n ≡ []
+holds_none c (Bext f) h = rw h.ranges_is refl
+holds_none c (Info id) h = rw h.list_is refl
+holds_none c (Whole id) h = rw (no_whole c id.0 h.whole_is) refl
+holds_none c (User id) h = refl
+
+pub none_grown : (c : Chunk) (old : List Entry) → Holding c false false false → Grows old old (fields_of (c ∷ []))
+none_grown c old h = not_grown old (fields_of (c ∷ [])) (λ n. holds_none c n h)
+
+pub bext_grown : (c : Chunk) (old new : List Entry) → Holding c false false true → Grows old new (ranges_below 15 c.body) → Grows old new (fields_of (c ∷ []))
+bext_grown c old new h grown = grown_as old new (ranges_below 15 c.body) (fields_of (c ∷ [])) grown same
+  where
+    same : (n : FieldName) → ranges_below 15 c.body n ≡ fields_of (c ∷ []) n
+    same (Bext f) = all_below f c.body ∙ rw h.ranges_is refl
+    same (Info id) = rw h.list_is refl
+    same (Whole id) = rw (no_whole c id.0 h.whole_is) refl
+    same (User id) = refl
+
+pub list_grown : (c : Chunk) (old new : List Entry) (is : List InfoItem) → Holding c true false false → is ≡ map item_of (list_run c).chunks → Grows old new (items_held is) → Grows old new (fields_of (c ∷ []))
+list_grown c old new is h e grown = grown_as old new (items_held is) (fields_of (c ∷ [])) grown same
+  where
+    same : (n : FieldName) → items_held is n ≡ fields_of (c ∷ []) n
+    same (Bext f) = rw h.ranges_is refl
+    same (Info id) =
+        ap (λ (x : List InfoItem). map plain (item_values id.0 x)) e
+        ∙ ap (map plain) (held_values id.0 (list_run c).chunks ∙ sym (append-nil (items.values info_items id.0 (list_run c).chunks)))
+        ∙ ap (λ (t : Bool). map plain ((if t then items.values info_items id.0 (list_run c).chunks else []) ++ [])) (sym h.list_is)
+    same (Whole id) = rw (no_whole c id.0 h.whole_is) refl
+    same (User id) = refl
+
+pub whole_grown : (c : Chunk) (id : FourCc) (old new : List Entry) → Holding c false true false → c.id ≡ id.0 → Adds old new (Whole id) (plain c.body) → Grows old new (fields_of (c ∷ []))
+whole_grown c id old new h same_id a = grown_as old new (one (Whole id) (plain c.body)) (fields_of (c ∷ [])) (added old new (Whole id) (plain c.body) a) same
+  where
+    same : (n : FieldName) → one (Whole id) (plain c.body) n ≡ fields_of (c ∷ []) n
+    same (Bext f) = rw h.ranges_is refl
+    same (Info i) = rw h.list_is refl
+    same (Whole w) = ap (λ (x : List ℕ). if bytes_eq x w.0 then plain c.body ∷ [] else []) (sym same_id) ∙ ap (λ (t : Bool). if t then plain c.body ∷ [] else []) (eq_sym c.id w.0) ∙ go (own_size c.form) (bytes_eq w.0 c.id) refl h.whole_is
+      where
+        go : (o t : Bool) → bytes_eq w.0 c.id ≡ t → (o && one_of whole_ids c.id) ≡ true → (if t then plain c.body ∷ [] else []) ≡ map plain ((if o && (one_of whole_ids w.0 && t) then c.body ∷ [] else []) ++ [])
+        go false t e i = absurd cc
+        go true true e i = ap (λ (x : Bool). map plain ((if x && true then c.body ∷ [] else []) ++ [])) (sym (ap (one_of whole_ids) (bytes_same w.0 c.id e) ∙ i))
+        go true false e i = no (one_of whole_ids w.0)
+          where
+            no : (x : Bool) → [] ≡ map plain ((if x && false then c.body ∷ [] else []) ++ [])
+            no true = refl
+            no false = refl
+    same (User i) = refl

@@ -1,0 +1,11 @@
+pub mod Tests
+pub mod Rows
+pub mod Steps
+pub mod Grown
+pub mod Roles
+pub mod Listed
+pub mod Sound
+pub mod Took
+pub mod Fronts
+pub mod Left
+pub mod Begins
