@@ -1,23 +1,20 @@
 -- The first chunk of a form: `ds64`, where the form has it.
-use Rattle.std.proofs.Common.{◌≡◌, ◌∙◌, ℕ, zero, suc, ◌+◌, ◌<◌, ◌≤◌, Bool, true, false, List, [], ◌∷◌, ◌++◌, length, map, take, refl, sym, ap, arith, subst}
+use Rattle.std.proofs.Common.{◌≡◌, ◌∙◌, ℕ, ◌+◌, ◌≤◌, Bool, true, false, List, [], ◌∷◌, ◌++◌, length, map, take, refl, sym, ap, arith, subst}
 use Rattle.std.specs.Prelude.{Option, Some, None, if◌then◌else◌}
-use Rattle.std.specs.declared.result.Result.TheVariants.{Ok, Err}
+use Rattle.std.specs.declared.result.Result.TheVariants.{Err}
 use Rattle.std.proofs.lemmas.List.{append-nil}
 use Rattle.part_tree.specs.declared.names.FourCc.{FourCc}
 use Rattle.part_tree.specs.declared.names.Span.{Span}
 use Rattle.part_tree.specs.declared.part.Part.{Part}
-use Rattle.part_tree.specs.declared.field.BextField.{BextField}
 use Rattle.part_tree.specs.declared.field.FieldName.{FieldName}
-use Rattle.part_tree.specs.declared.field.Value.{Value}
 use Rattle.part_tree.specs.declared.fields.Entry.{Entry}
-use Rattle.part_tree.specs.declared.why.Why.{Why}
 use Rattle.part_tree.specs.declared.why.ReadFault.{ReadFault}
 use Rattle.part_tree.specs.declared.why.ReadFault.TheVariants as Fault
 use Rattle.part_tree.specs.Fields.{values}
 use Rattle.container_model.specs.Chunk.{Chunk, Run, Stop, and_then, stopped, spell, spell_all}
 use Rattle.container_model.specs.Items.{listed}
 use Rattle.container_model.specs.Walk.{along}
-use Rattle.wave_model.specs.Wave.{Wave, is_big, wave_of, form_run, firsts, others}
+use Rattle.wave_model.specs.Wave.{is_big, wave_of, form_run, firsts, others}
 use Rattle.wave_model.specs.Fields.{fields, fields_of}
 use Rattle.wave_model.specs.Edited.{block_size, formats}
 use Rattle.wave_model.specs.Why.{Seen, children_why, last_why, chunks_why, nothing_seen}
@@ -27,7 +24,7 @@ use Rattle.wave_file.specs.declared.sizing.Sizing.{Sizing}
 use Rattle.wave_file.specs.Map.{HasSizes, part_at, part_as, sizes_at, sound_at, all_parts, all_sounds}
 use Rattle.wave_file.specs.Lawful.{HasRanges}
 use Rattle.wave_file.specs.Reads.{IsForm, IsFresh, IsLeft, IsPartial, Begins, seen_of}
-use Rattle.wave_file.specs.Sized.{IsStuck, StuckAt, all_taken, run_at, sizes_in, state_of}
+use Rattle.wave_file.specs.Sized.{StuckAt, all_taken, run_at, sizes_in, state_of}
 use Rattle.wave_file.proofs.Left.{left_stuck}
 
 abbrev run_from : List Chunk → Stop → List ℕ → Run

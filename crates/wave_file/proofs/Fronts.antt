@@ -1,18 +1,14 @@
 -- The form at the front of a file, its sizes, and its chunks.
-use Rattle.std.proofs.Common.{◌≡◌, ◌∙◌, ℕ, zero, suc, ◌+◌, ◌-◌, ◌*◌, ◌<◌, ◌≤◌, Bool, true, false, eqb, ltb, List, [], ◌∷◌, ◌++◌, length, map, take, drop, refl, sym, ap, arith, subst, length-take, length-drop, append_assoc}
+use Rattle.std.proofs.Common.{◌≡◌, ◌∙◌, ℕ, ◌+◌, ◌-◌, ◌*◌, ◌<◌, ◌≤◌, Bool, true, false, ltb, List, [], ◌∷◌, ◌++◌, length, take, drop, refl, sym, ap, arith, subst, length-take, length-drop}
 use Rattle.std.specs.Prelude.{Option, Some, None, if◌then◌else◌, codes, ◌&&◌, ◌||◌, ◌==◌, nat_lt, not}
 use Rattle.std.specs.Int.{w32, from_le_bytes}
 use Rattle.std.specs.Str.{bytes_eq}
-use Rattle.std.specs.declared.result.Result.TheVariants.{Ok, Err}
-use Rattle.std.proofs.lemmas.Bool.{le-ltb, lt-ltb, ltb-true, ltb-false}
-use Rattle.std.proofs.lemmas.List.{drop-take, take-take, drop-drop, take-append-drop, append-nil}
+use Rattle.std.specs.declared.result.Result.TheVariants.{Err}
+use Rattle.std.proofs.lemmas.Bool.{le-ltb, lt-ltb, ltb-false}
+use Rattle.std.proofs.lemmas.List.{take-take, take-append-drop, append-nil}
 use Rattle.part_tree.specs.Letters.{four}
-use Rattle.part_tree.specs.declared.names.FourCc.{FourCc}
 use Rattle.part_tree.specs.declared.names.Kind.{Kind}
 use Rattle.part_tree.specs.declared.names.Span.{Span}
-use Rattle.part_tree.specs.declared.part.Part.{Part}
-use Rattle.part_tree.specs.declared.field.FieldName.{FieldName}
-use Rattle.part_tree.specs.declared.field.Value.{Value}
 use Rattle.part_tree.specs.declared.fields.Entry.{Entry}
 use Rattle.part_tree.specs.declared.why.Why.{Why}
 use Rattle.part_tree.specs.declared.why.Why.TheVariants.{UnknownKind, Truncated, NoDs64, ShortDs64, CarrierBig}
@@ -20,25 +16,21 @@ use Rattle.part_tree.specs.declared.why.ReadFault.{ReadFault}
 use Rattle.part_tree.specs.declared.why.ReadFault.TheVariants as Fault
 use Rattle.part_tree.specs.Fields.{values}
 use Rattle.part_tree.proofs.Places.{bytes_same}
-use Rattle.container_model.specs.Chunk.{riff, Chunk, Run, chunks, and_then, stopped, spell, spell_all}
-use Rattle.container_model.specs.Items.{listed}
-use Rattle.container_model.specs.Sizes.{Row, Sizes, plain, table, riff_front}
-use Rattle.container_model.specs.Walk.{along}
-use Rattle.container_model.specs.Windows.{window}
+use Rattle.container_model.specs.Chunk.{chunks}
+use Rattle.container_model.specs.Sizes.{Sizes, plain, table, riff_front}
 use Rattle.container_model.specs.Written.{slice}
 use Rattle.container_model.proofs.Windows.{length_slice}
 use Rattle.rf64_ds64.specs.declared.Ds64.{Ds64}
-use Rattle.rf64_ds64.specs.Ds64.{IsDs64, is_short, needed, row_of}
-use Rattle.wave_model.specs.Wave.{le32, le64, is_big, is_wide, form_size, form_body, form_run, rows, table_of, sizes_of, wave_of, firsts, others, kind_of}
-use Rattle.wave_model.specs.Fields.{fields, fields_of}
-use Rattle.wave_model.specs.Edited.{is_kind, block_size, formats}
-use Rattle.wave_model.specs.Why.{first, or_else, kind_tests, ds64_tests, ds64_why, form_tests, chunks_why, children_why, last_why, nothing_seen, why}
+use Rattle.rf64_ds64.specs.Ds64.{IsDs64, is_short, needed}
+use Rattle.wave_model.specs.Wave.{le32, le64, is_big, form_size, form_body, form_run, rows, table_of, sizes_of, kind_of}
+use Rattle.wave_model.specs.Edited.{is_kind}
+use Rattle.wave_model.specs.Why.{first, or_else, kind_tests, ds64_tests, ds64_why, form_tests, chunks_why, why}
 use Rattle.wave_model.proofs.Ds64.{table_same}
 use Rattle.wave_file.specs.declared.form.Front.{Front}
 use Rattle.wave_file.specs.declared.form.AllRead.{AllRead}
 use Rattle.wave_file.specs.declared.map.WaveMap.{WaveMap}
 use Rattle.wave_file.specs.Form.{IsFront, IsRead, ReadsFront, ReadsForm, ReadsSizes, ReadsChunks, ReadsEnd, size_by, ends_badly, kind_from, HasForm}
-use Rattle.wave_file.specs.Map.{HasSizes, IsMapOf, ReadsWave, all_parts, all_sounds}
+use Rattle.wave_file.specs.Map.{HasSizes, IsMapOf, ReadsWave}
 use Rattle.wave_file.specs.Reads.{IsForm}
 use Rattle.wave_file.specs.Sized.{sizes_in, run_at}
 use Rattle.wave_file.proofs.Listed.{slice_drop}

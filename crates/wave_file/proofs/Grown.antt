@@ -1,15 +1,13 @@
 -- The values of a map, one chunk more.
-use Rattle.std.proofs.Common.{◌≡◌, ◌≢◌, ◌∙◌, ℕ, zero, suc, ◌+◌, ◌-◌, ◌<◌, ◌≤◌, Bool, true, false, eqb, ltb, List, [], ◌∷◌, ◌++◌, length, map, take, drop, get_or, refl, sym, ap, subst, arith, append_assoc, inl, inr, length-take, length-drop}
-use Rattle.std.specs.Prelude.{if◌then◌else◌, codes, ◌&&◌, ◌==◌, nat_lt, ◌⊎◌}
+use Rattle.std.proofs.Common.{◌≡◌, ◌∙◌, ℕ, ◌+◌, ◌<◌, ◌≤◌, Bool, true, false, eqb, ltb, List, [], ◌∷◌, ◌++◌, length, map, drop, get_or, refl, sym, ap, subst, arith, append_assoc, inl, inr, length-take, length-drop}
+use Rattle.std.specs.Prelude.{if◌then◌else◌, ◌&&◌, ◌==◌, nat_lt, ◌⊎◌}
 use Rattle.std.specs.Str.{bytes_eq}
-use Rattle.std.specs.List.{flat_map}
 use Rattle.std.proofs.lemmas.Bool.{lt-ltb, le-ltb, eqb-true, eqb-false, cases_lt}
 use Rattle.std.proofs.lemmas.List.{append-nil, map-append, at_drop_more, at_drop_all}
 use Rattle.container_model.specs.Chunk.{Chunk}
 use Rattle.container_model.specs.Items.{values_in}
 use Rattle.container_model.specs.Items as items
-use Rattle.carrier_model.specs.Info.{own_size, one_of, info, info_items, list_run}
-use Rattle.part_tree.specs.Letters.{four}
+use Rattle.carrier_model.specs.Info.{own_size, one_of, info_items, list_run}
 use Rattle.part_tree.specs.declared.names.FourCc.{FourCc}
 use Rattle.part_tree.specs.declared.field.BextField.{BextField}
 use Rattle.part_tree.specs.declared.field.FieldName.{FieldName}
@@ -18,16 +16,16 @@ use Rattle.part_tree.specs.declared.field.Value.{Value}
 use Rattle.part_tree.specs.declared.fields.Entry.{Entry}
 use Rattle.part_tree.specs.Fields.{values, Adds}
 use Rattle.part_tree.specs.Names.{same_name, whole_ids, info_ids, bext_row}
-use Rattle.part_tree.proofs.Places.{same_is_equal, bytes_same, bytes_refl, row_small}
-use Rattle.field_model.specs.Bext.{range_of, range_at, range_len, width}
+use Rattle.part_tree.proofs.Places.{same_is_equal, bytes_same, row_small}
+use Rattle.field_model.specs.Bext.{range_of, range_at, range_len}
 use Rattle.field_model.specs.Body.{FillsRange}
 use Rattle.field_model.specs.Fields.{FieldMap, plain}
 use Rattle.field_model.proofs.Ranges.{fixed_len, before_rest}
 use Rattle.info_list.specs.declared.InfoItem.{InfoItem}
 use Rattle.info_list.specs.Info.{item_of}
-use Rattle.wave_model.specs.Fields.{is_bext, is_info, is_whole, body_in, fields_of}
+use Rattle.wave_model.specs.Fields.{is_bext, is_info, is_whole, fields_of}
 use Rattle.wave_model.proofs.Values.{eq_sym}
-use Rattle.wave_file.specs.Lawful.{HasNoBext, HasBext, HasRange}
+use Rattle.wave_file.specs.Lawful.{HasNoBext, HasBext}
 use Rattle.wave_file.specs.Map.{is_field}
 use Rattle.wave_file.specs.Reads.{Grows, ranges_below, item_value, item_values, items_held}
 

@@ -1,8 +1,7 @@
 -- What is left of the chunks.
-use Rattle.std.proofs.Common.{◌≡◌, ◌∙◌, ℕ, zero, suc, ◌+◌, ◌<◌, ◌≤◌, Bool, true, false, List, [], ◌∷◌, ◌++◌, length, map, refl, sym, ap, arith, subst, append_assoc, inl, inr}
-use Rattle.std.specs.Prelude.{Option, Some, None, if◌then◌else◌}
-use Rattle.std.specs.List.{flat_map}
-use Rattle.std.specs.declared.result.Result.TheVariants.{Ok, Err}
+use Rattle.std.proofs.Common.{◌≡◌, ◌∙◌, ℕ, ◌+◌, Bool, true, false, List, [], ◌∷◌, ◌++◌, length, map, refl, sym, ap, append_assoc, inl, inr}
+use Rattle.std.specs.Prelude.{Option, Some, None}
+use Rattle.std.specs.declared.result.Result.TheVariants.{Err}
 use Rattle.std.proofs.lemmas.List.{append-nil, map-append}
 use Rattle.part_tree.specs.declared.part.Part.{Part}
 use Rattle.part_tree.specs.declared.names.Span.{Span}
@@ -23,14 +22,13 @@ use Rattle.carrier_model.specs.Info.{info, info_items}
 use Rattle.carrier_model.specs.Lists.{list_values, values_held}
 use Rattle.field_model.specs.Bext.{range_of}
 use Rattle.field_model.specs.Fields.{plain}
-use Rattle.wave_model.specs.Wave.{is_big, wave_of, form_run, firsts, others}
-use Rattle.wave_model.specs.Fields.{is_bext, is_whole, body_in, bodies, fields, fields_of, raws_of}
+use Rattle.wave_model.specs.Fields.{is_bext, is_whole, body_in, bodies, fields_of}
 use Rattle.wave_model.specs.Edited.{block_size, formats}
-use Rattle.wave_model.specs.Why.{Seen, first, or_else, is_fmt, see, children_why, last_why, chunks_why, chunk_tests, nothing_seen}
+use Rattle.wave_model.specs.Why.{Seen, or_else, is_fmt, see, children_why, last_why, chunks_why}
 use Rattle.wave_file.specs.declared.chunk.Reading.{Reading}
 use Rattle.wave_file.specs.declared.form.AllRead.{AllRead}
-use Rattle.wave_file.specs.Map.{part_at, sizes_at, sound_at, all_parts, all_sounds}
-use Rattle.wave_file.specs.Reads.{IsLeft, Took, Takes, IsFresh, seen_of}
+use Rattle.wave_file.specs.Map.{part_at, sound_at}
+use Rattle.wave_file.specs.Reads.{IsLeft, Took, Takes, seen_of}
 use Rattle.wave_file.specs.declared.sizing.Sizing.{Sizing}
 use Rattle.wave_file.specs.Lawful.{HasRanges, IsLawful}
 use Rattle.wave_file.specs.Sized.{IsStuck, StuckAt, run_at, state_of}

@@ -1,4 +1,4 @@
-pub mod Tests
+pub mod Firsts
 pub mod Rows
 pub mod Steps
 pub mod Grown

@@ -1,6 +1,6 @@
 -- The fields of a chunk are read, and its inside is tested.
-use Rattle.std.proofs.Common.{◌≡◌, ◌∙◌, ℕ, suc, ◌+◌, ◌-◌, ◌<◌, ◌≤◌, Bool, true, false, ltb, List, [], ◌∷◌, ◌++◌, length, map, take, drop, refl, sym, ap, arith}
-use Rattle.std.specs.Prelude.{Option, Some, None, if◌then◌else◌, ◌&&◌, not, Result}
+use Rattle.std.proofs.Common.{◌≡◌, ◌∙◌, ℕ, suc, ◌+◌, ◌-◌, ◌<◌, ◌≤◌, Bool, true, false, ltb, List, [], ◌∷◌, length, take, drop, refl, sym, ap, arith}
+use Rattle.std.specs.Prelude.{Some, None, if◌then◌else◌, ◌&&◌, not, Result}
 use Rattle.std.proofs.lemmas.Bool.{lt-ltb, le-ltb}
 use Rattle.std.proofs.lemmas.List.{length-map, drop-take, drop-drop}
 use Rattle.part_tree.specs.declared.names.FourCc.{FourCc}
@@ -14,7 +14,6 @@ use Rattle.container_model.specs.Chunk.{Chunk, Stop, ends, riff, spell_all}
 use Rattle.container_model.specs.Written.{slice}
 use Rattle.carrier_model.specs.Info.{list_run}
 use Rattle.field_model.specs.Fields.{plain}
-use Rattle.info_list.specs.declared.InfoItem.{InfoItem}
 use Rattle.info_list.specs.declared.InfoList.{InfoList}
 use Rattle.info_list.specs.Info.{item_of, IsInfo, CutInfo}
 use Rattle.riff_form.specs.declared.ChunkAt.{ChunkAt}

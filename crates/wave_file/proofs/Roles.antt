@@ -1,14 +1,13 @@
 -- What a chunk is to an edit, and what it holds.
-use Rattle.std.proofs.Common.{◌≡◌, ◌≢◌, ◌∙◌, ℕ, zero, suc, ◌+◌, ◌<◌, ◌≤◌, Bool, true, false, List, [], ◌∷◌, ◌++◌, length, take, drop, refl, sym, ap, arith, length-take}
+use Rattle.std.proofs.Common.{◌≡◌, ◌≢◌, ◌∙◌, ℕ, ◌<◌, Bool, true, false, List, length, take, refl, sym, ap, arith, length-take}
 use Rattle.std.specs.Prelude.{if◌then◌else◌, codes, ◌&&◌, ◌||◌, not, OnOk, Result, Ok, Err}
 use Rattle.std.specs.Str.{bytes_eq}
-use Rattle.std.specs.List.{list_any}
 use Rattle.part_tree.specs.declared.part.Role.{Role}
 use Rattle.part_tree.specs.declared.part.Role.TheVariants.{Opaque, Padding, Bext, Info, Whole, Sizes, Tables, UserData, Essence, Rest}
 use Rattle.part_tree.specs.declared.fields.Entry.{Entry}
 use Rattle.part_tree.specs.Names.{whole_ids}
 use Rattle.part_tree.proofs.Places.{bytes_same}
-use Rattle.container_model.specs.Chunk.{Form, Chunk}
+use Rattle.container_model.specs.Chunk.{Chunk}
 use Rattle.carrier_model.specs.Info.{own_size, is_padding, one_of}
 use Rattle.riff_form.specs.declared.ChunkAt.{ChunkAt}
 use Rattle.riff_form.specs.Walk.{chunk_in}

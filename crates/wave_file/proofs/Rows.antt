@@ -1,14 +1,14 @@
 -- Sizes that stand in a table: the first row of an identifier that is left is the row of its number.
-use Rattle.std.proofs.Common.{◌≡◌, ◌∙◌, ℕ, zero, suc, ◌+◌, ◌-◌, ◌<◌, ◌≤◌, Bool, true, false, eqb, List, [], ◌∷◌, ◌++◌, length, map, drop, get_or, refl, sym, ap, arith, subst}
+use Rattle.std.proofs.Common.{◌≡◌, ◌∙◌, ℕ, suc, ◌+◌, ◌-◌, ◌<◌, ◌≤◌, Bool, true, false, eqb, List, [], ◌∷◌, ◌++◌, length, drop, get_or, refl, sym, ap, arith}
 use Rattle.std.specs.Prelude.{Option, Some, None, if◌then◌else◌, codes, ◌==◌, option_map}
 use Rattle.std.specs.Str.{bytes_eq}
 use Rattle.std.proofs.lemmas.Bool.{eqb-true}
 use Rattle.std.proofs.lemmas.List.{at_drop_more, at_drop_all}
 use Rattle.part_tree.specs.declared.names.FourCc.{FourCc}
-use Rattle.part_tree.proofs.Places.{bytes_same, bytes_refl}
+use Rattle.part_tree.proofs.Places.{bytes_same}
 use Rattle.container_model.specs.Chunk.{Form, wide, Header, full_header, no_header}
 use Rattle.container_model.specs.Sizes.{Row, Sizes, plain, table, first_row, sized}
-use Rattle.rf64_ds64.specs.Ds64.{nth_size, row_of}
+use Rattle.rf64_ds64.specs.Ds64.{nth_size}
 use Rattle.wave_file.specs.Sized.{row_taken, taken, all_taken, times}
 
 -- ---- one row taken

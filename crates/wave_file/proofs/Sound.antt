@@ -1,6 +1,6 @@
 -- The block size and the sound, one chunk more.
-use Rattle.std.proofs.Common.{◌≡◌, ◌≢◌, ◌∙◌, ℕ, zero, suc, ◌+◌, ◌-◌, ◌<◌, ◌≤◌, Bool, true, false, ltb, List, [], ◌∷◌, ◌++◌, length, map, take, drop, refl, sym, ap, arith}
-use Rattle.std.specs.Prelude.{Option, Some, None, if◌then◌else◌, codes, ◌&&◌, ◌||◌, nat_lt, is_some}
+use Rattle.std.proofs.Common.{◌≡◌, ◌∙◌, ℕ, ◌+◌, ◌-◌, ◌≤◌, Bool, true, false, ltb, List, [], ◌∷◌, ◌++◌, length, map, take, drop, refl, sym, ap, arith}
+use Rattle.std.specs.Prelude.{Option, Some, None, if◌then◌else◌, codes, ◌&&◌, nat_lt, is_some}
 use Rattle.std.specs.Str.{bytes_eq}
 use Rattle.std.proofs.lemmas.Bool.{lt-ltb, le-ltb}
 use Rattle.std.proofs.lemmas.List.{append-nil, drop-take, take-take, drop-drop}
@@ -13,12 +13,11 @@ use Rattle.container_model.specs.Items.{listed}
 use Rattle.container_model.specs.Written.{slice}
 use Rattle.wave_model.specs.Fields.{body_in}
 use Rattle.wave_model.specs.Edited.{block_size}
-use Rattle.wave_model.specs.Why.{Seen, first, is_fmt, is_data}
+use Rattle.wave_model.specs.Why.{first, is_fmt, is_data}
 use Rattle.wave_file.specs.Map.{sound_at}
 use Rattle.wave_file.specs.Tests.{essence_tests}
 use Rattle.wave_file.specs.Reads.{seen_of, AddsSound, Ends}
 use Rattle.wave_file.specs.declared.chunk.Reading.{Reading}
-use Rattle.wave_file.specs.declared.chunk.Essence.{Essence}
 
 -- a range in a range
 pub slice_in : (b : List ℕ) (at len m n : ℕ) → m + n ≤ len → take n (drop m (slice b at len)) ≡ slice b (at + m) n

@@ -1,6 +1,6 @@
 -- One step over the chunks of a form, with the sizes that stand in a table.
-use Rattle.std.proofs.Common.{◌≡◌, ◌∙◌, ℕ, ◌+◌, ◌-◌, ◌%◌, ◌<◌, ◌≤◌, Bool, true, false, eqb, ltb, min, List, [], ◌∷◌, ◌++◌, length, map, take, drop, refl, sym, ap, arith, length-append, length-take, length-drop}
-use Rattle.std.specs.Prelude.{Option, Some, None, if◌then◌else◌, codes, ◌==◌, nat_lt}
+use Rattle.std.proofs.Common.{◌≡◌, ◌∙◌, ℕ, ◌+◌, ◌-◌, ◌≤◌, Bool, true, false, eqb, ltb, List, [], ◌∷◌, ◌++◌, length, map, take, drop, refl, sym, ap, arith, length-append, length-take, length-drop}
+use Rattle.std.specs.Prelude.{Option, Some, None, if◌then◌else◌, codes, ◌==◌}
 use Rattle.std.specs.Str.{bytes_eq}
 use Rattle.std.specs.Int.{w32, to_le_bytes}
 use Rattle.std.specs.declared.result.Result.TheVariants.{Ok, Err}
@@ -23,7 +23,7 @@ use Rattle.wave_model.specs.Why.{Seen, last_why}
 use Rattle.wave_file.specs.declared.sizing.Sizing.{Sizing}
 use Rattle.wave_file.specs.declared.sizing.Size.{Size}
 use Rattle.wave_file.specs.declared.sizing.Found.{Found}
-use Rattle.wave_file.specs.Sized.{taken, all_taken, sizes_in, state_of, state_next, TellsSize, run_at, times, FoundAt, IsStuck}
+use Rattle.wave_file.specs.Sized.{taken, all_taken, sizes_in, state_of, state_next, TellsSize, run_at, times, IsStuck}
 use Rattle.wave_file.proofs.Rows.{rows_after, table_after, plain_after, nth_after, all_more, sized_own, sized_main, sized_row, sized_none}
 
 -- ---- the sizes that headers tell

@@ -1,8 +1,8 @@
 -- One chunk more.
-use Rattle.std.proofs.Common.{◌≡◌, ◌∙◌, ℕ, zero, suc, ◌+◌, ◌<◌, ◌≤◌, Bool, true, false, List, [], ◌∷◌, ◌++◌, length, map, refl, sym, ap, arith, length-append}
-use Rattle.std.specs.Prelude.{Option, Some, None, if◌then◌else◌, ◌||◌, ◌&&◌, codes, nat_lt}
+use Rattle.std.proofs.Common.{◌≡◌, ◌∙◌, ℕ, ◌+◌, ◌≤◌, Bool, true, false, List, [], ◌∷◌, ◌++◌, length, map, refl, sym, ap, arith, length-append}
+use Rattle.std.specs.Prelude.{None, if◌then◌else◌, ◌||◌, ◌&&◌, codes, nat_lt}
 use Rattle.std.specs.Str.{bytes_eq}
-use Rattle.std.specs.declared.result.Result.TheVariants.{Ok, Err}
+use Rattle.std.specs.declared.result.Result.TheVariants.{Err}
 use Rattle.std.proofs.lemmas.List.{length-map}
 use Rattle.part_tree.specs.Letters.{four}
 use Rattle.part_tree.specs.declared.names.FourCc.{FourCc}
@@ -13,7 +13,6 @@ use Rattle.part_tree.specs.declared.part.Role.TheVariants.{Opaque, Padding, Bext
 use Rattle.part_tree.specs.declared.field.BextField.{BextField}
 use Rattle.part_tree.specs.declared.field.FieldName.TheVariants as name
 use Rattle.part_tree.specs.declared.fields.Entry.{Entry}
-use Rattle.part_tree.specs.declared.why.Why.{Why}
 use Rattle.part_tree.specs.declared.why.Why.TheVariants as W
 use Rattle.part_tree.specs.declared.why.ReadFault.{ReadFault}
 use Rattle.part_tree.specs.declared.why.ReadFault.TheVariants as Fault
@@ -23,13 +22,13 @@ use Rattle.container_model.specs.Items.{listed}
 use Rattle.wave_model.specs.Fields.{is_bext, body_in}
 use Rattle.wave_model.specs.Edited.{block_size, parts_of}
 use Rattle.wave_model.specs.Why.{Seen, first, is_fmt, is_data, see, chunk_tests}
-use Rattle.wave_file.specs.Lawful.{HasNoBext, HasBext, HasRanges}
-use Rattle.wave_file.specs.Map.{Ascend, part_as, sound_at, at_front, role_of}
-use Rattle.wave_file.specs.Tests.{early_tests, essence_tests, late_tests}
+use Rattle.wave_file.specs.Lawful.{HasRanges}
+use Rattle.wave_file.specs.Map.{Ascend, part_as, sound_at}
+use Rattle.wave_file.specs.Tests.{early_tests, late_tests}
 use Rattle.wave_file.specs.Reads.{is_ranges, KeepsRanges, ReadsFields, ReadsSound, Takes, AddsSound, one_if, seen_of}
 use Rattle.wave_file.specs.declared.chunk.Reading.{Reading}
 use Rattle.wave_file.specs.declared.chunk.Essence.{Essence as Sound}
-use Rattle.wave_file.proofs.Tests.{Kinds, essence_fails}
+use Rattle.wave_file.proofs.Firsts.{Kinds, essence_fails}
 
 -- the early tests as they are written in the code
 pub early_same : (s : Seen) (id : FourCc) (len : ℕ) (carrier bext has format some carrier_is bext_is : Bool) → carrier ≡ carrier_is → bext ≡ bext_is → has ≡ nat_lt 0 s.bexts → format ≡ bytes_eq (codes "fmt ") id.0 → some ≡ nat_lt 0 s.formats

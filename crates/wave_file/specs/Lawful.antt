@@ -1,6 +1,6 @@
 -- Fields that a file can have: those of `bext` are all there or all absent, each has one value, and each value but the
 -- coding history has the length of its range (EBU Tech 3285, section 2.3).
-use Rattle.std.specs.Prelude.{◌≡◌, ℕ, List, [], ◌∷◌, length, Bool, true, false, ◌⊎◌}
+use Rattle.std.specs.Prelude.{◌≡◌, List, [], ◌∷◌, Bool, true, false, ◌⊎◌}
 use Rattle.part_tree.specs.declared.field.BextField.{BextField}
 use Rattle.part_tree.specs.declared.field.FieldName.TheVariants.{Bext}
 use Rattle.part_tree.specs.declared.field.Value.{Value}

@@ -1,7 +1,7 @@
 -- What a map says of a WAVE file: its parts with their places and roles, its fields, its sizes, and where its sound stands.
-use Rattle.std.specs.Prelude.{◌≡◌, ◌≤◌, ◌<◌, ℕ, ◌+◌, ◌^◌, ◌==◌, List, [], ◌∷◌, ◌++◌, length, map, take, drop, Bool, true, false, ◌&&◌, codes, Option, Some, None, Result, if◌then◌else◌}
+use Rattle.std.specs.Prelude.{◌≡◌, ◌≤◌, ◌<◌, ℕ, ◌+◌, ◌^◌, ◌==◌, List, [], ◌∷◌, ◌++◌, length, map, take, drop, Bool, true, false, ◌&&◌, Option, Some, None, Result, if◌then◌else◌}
 use Rattle.std.specs.declared.result.Result.TheVariants.{Ok, Err}
-use Rattle.container_model.specs.Chunk.{Chunk, spell, spell_all}
+use Rattle.container_model.specs.Chunk.{Chunk, spell}
 use Rattle.container_model.specs.Written.{slice}
 use Rattle.container_model.specs.Walk.{along}
 use Rattle.carrier_model.specs.Info.{own_size, is_padding, one_of}

@@ -1,5 +1,5 @@
 -- What the reader's calls answer.
-use Rattle.std.specs.Prelude.{◌≡◌, ◌≤◌, ℕ, ◌+◌, ◌*◌, ◌^◌, List, [], ◌∷◌, ◌++◌, length, map, take, drop, nat_lt, Bool, true, false, ◌&&◌, codes, Option, Some, None, Result, if◌then◌else◌}
+use Rattle.std.specs.Prelude.{◌≡◌, ◌≤◌, ℕ, ◌+◌, List, [], ◌∷◌, ◌++◌, length, map, take, nat_lt, Bool, true, false, ◌&&◌, codes, Option, Some, None, Result, if◌then◌else◌}
 use Rattle.std.specs.Str.{bytes_eq}
 use Rattle.std.specs.declared.result.Result.TheVariants.{Ok, Err}
 use Rattle.container_model.specs.Chunk.{Chunk, Run}
@@ -9,12 +9,10 @@ use Rattle.carrier_model.specs.Info.{one_of}
 use Rattle.part_tree.specs.declared.names.Span.{Span}
 use Rattle.part_tree.specs.declared.part.Role.{Role}
 use Rattle.part_tree.specs.declared.part.Role.TheVariants.{Opaque, Padding, Bext, Info, Whole, Essence}
-use Rattle.part_tree.specs.declared.part.Role.TheVariants as role
 use Rattle.part_tree.specs.declared.field.BextField.{BextField}
 use Rattle.part_tree.specs.declared.field.FieldName.{FieldName}
 use Rattle.part_tree.specs.declared.field.FieldName.TheVariants as name
 use Rattle.part_tree.specs.declared.fields.Entry.{Entry}
-use Rattle.part_tree.specs.declared.why.Why.{Why as Refusal}
 use Rattle.part_tree.specs.declared.why.ReadFault.{ReadFault}
 use Rattle.part_tree.specs.declared.why.ReadFault.TheVariants.{Why, Depot, Memory}
 use Rattle.part_tree.specs.Fields.{values}
@@ -25,10 +23,10 @@ use Rattle.info_list.specs.declared.InfoItem.{InfoItem}
 use Rattle.wave_model.specs.Wave.{is_big, wave_of, form_size, form_run, sizes_of}
 use Rattle.wave_model.specs.Fields.{body_in, fields, fields_of}
 use Rattle.wave_model.specs.Edited.{block_size, formats, parts_of}
-use Rattle.wave_model.specs.Why.{Seen, is_fmt, first, or_else, kind_tests, ds64_why, form_tests, chunk_tests, see, children_why, last_why, chunks_why}
+use Rattle.wave_model.specs.Why.{Seen, is_fmt, first, kind_tests, ds64_why, form_tests, chunk_tests, see, children_why, last_why, chunks_why}
 use Rattle.rf64_ds64.specs.declared.Ds64.{Ds64}
 use Rattle.wave_file.specs.Lawful.{HasNoBext, HasBext, HasRanges}
-use Rattle.wave_file.specs.Map.{role_of, part_at, sound_at, all_parts, all_sounds, Ascend, HasSizes}
+use Rattle.wave_file.specs.Map.{part_at, sound_at, all_parts, all_sounds, Ascend, HasSizes}
 use Rattle.wave_file.specs.Sized.{sizes_in, run_at, state_of}
 use Rattle.wave_file.specs.declared.sizing.Sizing.{Sizing}
 use Rattle.wave_file.specs.Tests.{essence_tests, late_tests}

@@ -1,5 +1,5 @@
 -- Where the sizes of chunks stand while the chunks of a form are read, and what is read next.
-use Rattle.std.specs.Prelude.{◌≡◌, ℕ, ◌+◌, ◌==◌, List, [], ◌∷◌, length, map, drop, Bool, true, false, codes, Option, Some, None, Result, if◌then◌else◌}
+use Rattle.std.specs.Prelude.{◌≡◌, ℕ, ◌+◌, List, [], ◌∷◌, length, map, Bool, true, false, codes, Option, Some, None, Result, if◌then◌else◌}
 use Rattle.std.specs.Str.{bytes_eq}
 use Rattle.std.specs.declared.result.Result.TheVariants.{Ok, Err}
 use Rattle.container_model.specs.Chunk.{full_header, no_header, Run, spell, ends, chunks, and_then, stopped}
@@ -8,7 +8,6 @@ use Rattle.container_model.specs.Windows.{window}
 use Rattle.part_tree.specs.declared.names.FourCc.{FourCc}
 use Rattle.part_tree.specs.declared.why.ReadFault.{ReadFault}
 use Rattle.part_tree.specs.declared.why.ReadFault.TheVariants.{Why, Depot, Memory}
-use Rattle.riff_form.specs.declared.Head.{Head}
 use Rattle.riff_form.specs.Walk.{chunk_in}
 use Rattle.rf64_ds64.specs.declared.Ds64.{Ds64}
 use Rattle.rf64_ds64.specs.declared.RowMissing.{RowMissing}

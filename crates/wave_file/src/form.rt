@@ -301,9 +301,9 @@ fn kind_by(big: bool) -> Kind
     if big { Kind::Rf64 } else { Kind::Wave }
 }
 
-/// Reads a WAVE or RF64 file: its map, or the first reason for which it is refused, with its place. The depot is only read,
-/// and the sound isn't read at all. `Depot` only where the count of the depot's faults rose. Whatever the depot, a map is
-/// sound: its ranges lie inside the length, its parts ascend, and its fields are lawful.
+/// Reads a WAVE or RF64 file: its map, or the first reason for which it is refused, with its place. The depot is only read.
+/// `Depot` only where the count of the depot's faults rose. Whatever the depot, a map is sound: its ranges lie inside the
+/// length, its parts ascend, and its fields are lawful.
 pub fn read_wave<D: Depot>(alloc: Global, depot: &mut D) -> Result<WaveMap, ReadFault>
     ensures wave { (b : List ℕ) → Holds (D.disk depot.old) b → ReadsWave b result }
     ensures sound { IfOk result (λ map. IsSound map) }

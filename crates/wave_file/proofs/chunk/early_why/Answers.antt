@@ -1,6 +1,6 @@
 use Rattle.std.proofs.Common.{◌∙◌, sym}
 use Rattle.wave_file.specs.Reads.{carries, is_ranges, seen_of}
-use Rattle.wave_file.proofs.Tests.{one_above}
+use Rattle.wave_file.proofs.Firsts.{one_above}
 use Rattle.wave_file.proofs.Sound.{some_above}
 use Rattle.wave_file.proofs.Took.{early_same}
 use Rattle.wave_file.proofs.chunk.early_why.Goals as goal

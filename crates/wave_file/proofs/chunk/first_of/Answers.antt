@@ -1,9 +1,8 @@
-use Rattle.std.proofs.Common.{rules, refl, ◌≡◌, ◌∙◌, sym, ap, arith, drop, suc, ◌+◌, false, length}
-use Rattle.std.specs.Prelude.{slice_index_or, Some, None}
+use Rattle.std.proofs.Common.{refl, ◌≡◌, ◌∙◌, sym, ap, arith, suc, ◌+◌, false}
 use Rattle.part_tree.specs.declared.why.Why.TheVariants.{UnknownKind}
 use Rattle.std.proofs.lemmas.List.{drop_all}
 use Rattle.wave_model.specs.Why.{first}
-use Rattle.wave_file.proofs.Tests.{first_at}
+use Rattle.wave_file.proofs.Firsts.{first_at}
 use Rattle.wave_file.proofs.chunk.first_of.Goals as goal
 
 pub returns-then-holds : goal.returns-then-holds

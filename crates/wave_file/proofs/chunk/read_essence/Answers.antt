@@ -1,9 +1,8 @@
-use Rattle.std.proofs.Common.{rules, refl, arith, ap, sym, ◌∙◌, ◌≡◌, ◌+◌, ℕ, List, length, true, false}
+use Rattle.std.proofs.Common.{rules, ap, sym, ◌∙◌, ◌≡◌, ◌+◌, ℕ, length}
 use Rattle.container_model.proofs.Windows.{length_slice}
 use Rattle.riff_form.specs.Walk.{chunk_in}
 use Rattle.wave_model.specs.Wave.{form_kind}
-use Rattle.wave_model.specs.Why.{is_fmt, is_data}
-use Rattle.wave_file.proofs.Sound.{block_zero, adds_format, two_sounds, adds_sound, adds_nothing, ends_on}
+use Rattle.wave_file.proofs.Sound.{block_zero, adds_format, two_sounds, adds_sound, adds_nothing}
 use Rattle.wave_file.proofs.chunk.read_essence.Goals as goal
 
 pub returns-then-align-eq0-clause-essence : goal.returns-then-align-eq0-clause-essence

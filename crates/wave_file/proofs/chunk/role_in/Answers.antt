@@ -1,4 +1,4 @@
-use Rattle.std.proofs.Common.{rules, refl, arith, ap, sym, ◌∙◌, ◌≡◌, ◌+◌, ◌≤◌, ℕ, List, drop, take, length, length-take, ◌∷◌, [], true, false}
+use Rattle.std.proofs.Common.{refl, arith, ap, sym, ◌∙◌, drop, take, length-take, ◌∷◌, []}
 use Rattle.std.specs.Prelude.{not}
 use Rattle.std.proofs.lemmas.List.{take-take}
 use Rattle.container_model.proofs.Windows.{length_slice}

@@ -1,18 +1,17 @@
-use Rattle.std.proofs.Common.{rules, refl, arith, ap, sym, ◌∙◌, ◌≡◌, ◌+◌, ◌≤◌, ◌++◌, ◌∷◌, [], ℕ, List, Bool, length, true, false}
-use Rattle.std.specs.Prelude.{Some, None, ◌||◌}
+use Rattle.std.proofs.Common.{refl, arith, ap, sym, ◌∙◌, ◌≡◌, ◌+◌, ◌++◌, ◌∷◌, [], ℕ, Bool, length}
+use Rattle.std.specs.Prelude.{◌||◌}
 use Rattle.part_tree.specs.declared.part.Part.{Part}
 use Rattle.container_model.specs.Items.{listed}
 use Rattle.container_model.proofs.Windows.{length_slice}
 use Rattle.me_disk.proofs.Holds.{holds_on}
 use Rattle.riff_form.specs.Walk.{chunk_in}
 use Rattle.wave_model.specs.Wave.{form_kind}
-use Rattle.wave_model.specs.Why.{first, see}
+use Rattle.wave_model.specs.Why.{first}
 use Rattle.wave_file.specs.Map.{role_of, at_front}
 use Rattle.wave_file.specs.Tests.{early_tests}
 use Rattle.wave_file.specs.Reads.{carries, is_ranges, one_if, seen_of}
-use Rattle.wave_file.specs.Lawful.{HasRanges}
 use Rattle.wave_file.proofs.Roles.{role_carries, role_ranges}
-use Rattle.wave_file.proofs.Tests.{Kinds, Early, early_is, early_fails, late_is}
+use Rattle.wave_file.proofs.Firsts.{Kinds, Early, early_is, early_fails, late_is}
 use Rattle.wave_file.proofs.Sound.{ends_on}
 use Rattle.wave_file.proofs.Took.{seen_from, sound_fails, late_fails, seen_is, part_is, ascend_more, ranges_on}
 use Rattle.wave_file.proofs.chunk.take_chunk.Goals as goal

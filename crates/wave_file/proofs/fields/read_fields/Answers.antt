@@ -1,4 +1,4 @@
-use Rattle.std.proofs.Common.{rules, refl, arith, ap, sym, ◌∙◌, ◌≡◌, ◌+◌, ℕ, List, length, true, false}
+use Rattle.std.proofs.Common.{refl, arith, sym, ◌∙◌, ◌≡◌, true, false}
 use Rattle.container_model.proofs.Windows.{length_slice}
 use Rattle.riff_form.specs.Walk.{chunk_in}
 use Rattle.wave_model.specs.Wave.{form_kind}

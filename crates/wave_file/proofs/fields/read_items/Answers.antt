@@ -1,4 +1,4 @@
-use Rattle.std.proofs.Common.{rules, arith, ap, sym, subst, ◌∙◌, ◌≡◌, ◌+◌, ◌≤◌, ℕ, List, drop, length}
+use Rattle.std.proofs.Common.{arith, ap, sym, subst, ◌∙◌, ◌≡◌, ◌+◌, ℕ, List, drop, length}
 use Rattle.std.specs.Prelude.{Some}
 use Rattle.part_tree.specs.declared.why.Why.TheVariants.{Truncated}
 use Rattle.container_model.specs.Chunk.{riff}

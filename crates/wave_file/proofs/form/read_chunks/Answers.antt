@@ -1,12 +1,12 @@
-use Rattle.std.proofs.Common.{rules, refl, arith, ap, sym, subst, ◌∙◌, ◌≡◌, ◌+◌, ◌≤◌, ℕ, List, length}
+use Rattle.std.proofs.Common.{refl, arith, ap, subst, ◌∙◌, ◌≡◌, ◌+◌, ◌≤◌, ℕ, length}
 use Rattle.std.specs.declared.option.Option.TheVariants.{Some, None}
-use Rattle.std.specs.declared.result.Result.TheVariants.{Ok, Err}
+use Rattle.std.specs.declared.result.Result.TheVariants.{Err}
 use Rattle.container_model.specs.Chunk.{spell}
 use Rattle.me_disk.proofs.Runs.{ReadsOnly-trans}
 use Rattle.me_disk.proofs.Holds.{holds_on}
 use Rattle.riff_form.specs.Walk.{chunk_in, InOrder}
 use Rattle.wave_model.specs.Wave.{form_kind}
-use Rattle.wave_file.specs.Reads.{IsLeft, Took, Takes, Ends}
+use Rattle.wave_file.specs.Reads.{Took, Takes, Ends}
 use Rattle.wave_file.specs.Sized.{FoundAt, run_at, state_of}
 use Rattle.wave_file.proofs.Left.{left_more, take_fails, chunks_stuck, no_format, no_sound, left_all, lawful}
 use Rattle.wave_file.proofs.Took.{ascend_to}

@@ -1,4 +1,4 @@
-use Rattle.std.proofs.Common.{rules, refl, arith, ap, sym, subst, ◌∙◌, ◌≡◌, ◌+◌, ◌≤◌, ℕ, List, length}
+use Rattle.std.proofs.Common.{refl}
 use Rattle.me_disk.proofs.Holds.{holds_on}
 use Rattle.wave_file.specs.Reads.{IsForm}
 use Rattle.wave_file.proofs.Fronts.{sizes_fail, form_fails, chunks_fail, form_is, map_is}

@@ -1,4 +1,3 @@
-use Rattle.std.proofs.Common.{ℕ, List}
 use Rattle.me_disk.proofs.Holds.{holds_on}
 use Rattle.wave_file.proofs.Fronts.{front_fails}
 use Rattle.wave_file.proofs.form.read_wave.Goals as goal

@@ -1,7 +1,5 @@
-use Rattle.std.proofs.Common.{arith, rules, refl, ap, ◌∙◌, ◌≡◌, sym}
-use Rattle.std.specs.declared.option.Option.TheVariants.{Some, None}
-use Rattle.container_model.specs.Windows.{window}
-use Rattle.riff_form.specs.Walk.{FrontIs, InOrder}
+use Rattle.std.proofs.Common.{rules, refl, ap, ◌∙◌, ◌≡◌}
+use Rattle.riff_form.specs.Walk.{InOrder}
 use Rattle.wave_file.specs.Sized.{state_of}
 use Rattle.wave_file.proofs.Steps.{none_left, stuck_row, stuck_cut, found_at}
 use Rattle.wave_file.proofs.sizing.next_chunk.Goals as goal

@@ -1,12 +1,11 @@
 -- The first test that holds, and the three groups of a chunk's tests.
-use Rattle.std.proofs.Common.{◌≡◌, ◌∙◌, ℕ, zero, suc, ◌+◌, ◌<◌, ◌≤◌, ◌^◌, Bool, true, false, ltb, List, [], ◌∷◌, ◌++◌, length, drop, refl, sym, ap, arith}
+use Rattle.std.proofs.Common.{◌≡◌, ◌∙◌, ℕ, zero, suc, ◌+◌, ◌<◌, ◌≤◌, Bool, true, false, ltb, List, [], ◌∷◌, ◌++◌, length, drop, refl, ap, arith}
 use Rattle.std.specs.Prelude.{slice_index_or, Option, Some, None, if◌then◌else◌, codes, ◌&&◌, nat_lt}
 use Rattle.std.specs.Str.{bytes_eq}
 use Rattle.std.specs.List.{AllByRecursion}
 use Rattle.std.proofs.lemmas.Bool.{ltb-false}
 use Rattle.part_tree.specs.declared.why.Why.{Why}
 use Rattle.container_model.specs.Chunk.{Chunk}
-use Rattle.container_model.specs.Items.{listed}
 use Rattle.wave_model.specs.Fields.{is_bext}
 use Rattle.wave_model.specs.Edited.{is_carrier}
 use Rattle.wave_model.specs.Why.{Seen, first, or_else, chunk_tests}
