@@ -7,6 +7,9 @@ ghost use Rattle.field_model.specs.Bext.{lay_range, raised, range_of, version, w
 ghost use Rattle.bext_fields.specs.declared.FieldRow.{FieldRow};
 ghost use Rattle.bext_fields.specs.Table.{IsInside, IsModelRow, bytes_of, is_of, with_bytes};
 
+mod change;
+
+pub use change::RawChange;
 pub use part_tree::{BextField, Form};
 
 /// The least length of a body: the ranges of fixed length, in bytes.
