@@ -1,3 +1,4 @@
 pub mod Found
 mod Raise
 mod Rows
+pub mod Laid

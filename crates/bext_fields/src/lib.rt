@@ -1,15 +1,17 @@
 //! The chunk `bext` of EBU Tech 3285 (versions 0 to 2) as a table of its ranges: which bytes are which field, how one field
-//! is laid without a byte of another, and how the version is raised. It knows bodies alone, and takes no memory.
+//! is laid without a byte of another, and how the version is raised, and how a body is edited. It knows bodies alone.
 #![tactic(auto)]
 
-ghost use Rattle.std.specs.Prelude.{◌≡◌, ◌+◌, ◌<◌, ◌≤◌, ◌⊎◌, ℕ, List, length, get_or, position, IsErr, ◌↔◌, IfErr};
+ghost use Rattle.std.specs.Prelude.{◌≡◌, ◌+◌, ◌<◌, ◌≤◌, ℕ, List, length, get_or, position, IsErr, ◌↔◌, IfErr};
 ghost use Rattle.field_model.specs.Bext.{lay_range, raised, range_of, version, without_loudness};
 ghost use Rattle.bext_fields.specs.declared.FieldRow.{FieldRow};
 ghost use Rattle.bext_fields.specs.Table.{IsInside, IsModelRow, bytes_of, is_of, with_bytes};
 
 mod change;
+mod edit;
 
 pub use change::RawChange;
+pub use edit::{NEW_BODY, edited_body, needed_version, new_edited_body};
 pub use part_tree::{BextField, Form};
 
 /// The least length of a body: the ranges of fixed length, in bytes.
@@ -212,7 +214,7 @@ pub fn set_raw(bext: &mut [u8], row: &FieldRow, raw: &[u8])
 /// was 0, the loudness fields 7FFF where it becomes 2. Every other byte stays.
 pub fn raise_version(bext: &mut [u8], to: u16)
     requires long { 602 ≤ length bext.old }
-    requires version { (to ≡ 1) ⊎ (to ≡ 2) }
+    requires version { to ≤ 2 }
     ensures { bext.new ≡ raised to bext.old }
 {
     let old = version_in(bext);
