@@ -1,3 +1,4 @@
+pub mod Effects
 pub mod Hex
 pub mod Lawful
 pub mod Letters

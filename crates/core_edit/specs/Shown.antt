@@ -1,7 +1,8 @@
 -- The text that a value shows, without taking memory.
-use Rattle.std.specs.Prelude.{ℕ, List, true, false, Option, Some}
+use Rattle.std.specs.Prelude.{ℕ, List, true, false, Option, Some, None}
 use Rattle.part_tree.specs.declared.field.FieldName.{FieldName}
 use Rattle.part_tree.specs.declared.field.FieldName.TheVariants.{Bext, Info, Whole, User}
+use Rattle.part_tree.specs.declared.field.Form.{Form}
 use Rattle.field_model.specs.Bext.{form_of}
 use Rattle.field_model.specs.Numbers.{hex_text}
 use Rattle.field_model.specs.Shown.{before_zero, shown_form, shown_whole}
@@ -21,3 +22,17 @@ shown_at version (Bext field) raw = shown_form (form_of field) version raw
 shown_at version (Info id) raw = Some (before_zero raw)
 shown_at version (Whole id) raw = Some (shown_whole id.0 raw)
 shown_at version (User id) raw = Some raw
+
+-- what the spelling of a text shows
+abbrev pub spelled_at : ℕ → FieldName → Option (List ℕ) → Option (List ℕ)
+spelled_at version name None = None
+spelled_at version name (Some raw) = shown_at version name raw
+
+-- the same, for a field of bext by its form, and for a whole chunk
+abbrev pub spelled_form : Form → ℕ → Option (List ℕ) → Option (List ℕ)
+spelled_form form version None = None
+spelled_form form version (Some raw) = shown_form form version raw
+
+abbrev pub spelled_whole : List ℕ → Option (List ℕ) → Option (List ℕ)
+spelled_whole id None = None
+spelled_whole id (Some raw) = Some (shown_whole id raw)

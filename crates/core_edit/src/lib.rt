@@ -5,6 +5,7 @@
 
 mod date;
 mod edit;
+mod effect;
 mod name;
 mod number;
 mod raw;
@@ -15,6 +16,7 @@ mod tests;
 mod value_text;
 
 pub use edit::{Edit, EditFault};
+pub use effect::has_effect;
 pub use name::{field_name, name_text};
 pub use part_tree::{Change, EditItem};
 pub use raw::raw_of;

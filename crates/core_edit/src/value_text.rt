@@ -139,7 +139,8 @@ fn zero_place(raw: &[u8]) -> usize
     k
 }
 
-fn before_zero(raw: &[u8]) -> &[u8]
+/// The bytes before the first 0.
+pub fn before_zero(raw: &[u8]) -> &[u8]
     ensures { result.now ≡ spec.before_zero raw.now }
 {
     &raw[..zero_place(raw)]
@@ -156,8 +157,8 @@ fn all_zeros(raw: &[u8]) -> bool
     true
 }
 
-// The number of eight bytes, and of two.
-fn number_8(raw: &[u8]) -> u64
+/// The number of eight bytes.
+pub fn number_8(raw: &[u8]) -> u64
     requires { length raw.now ≡ 8 }
     ensures { result ≡ le raw.now }
 {
@@ -167,6 +168,7 @@ fn number_8(raw: &[u8]) -> u64
     }
 }
 
+// The number of two bytes.
 fn number_2(raw: &[u8]) -> u16
     requires { length raw.now ≡ 2 }
     ensures { result ≡ le raw.now }
@@ -196,7 +198,8 @@ pub fn shown_text<'a>(version: u16, name: &FieldName, raw: &'a [u8]) -> Option<S
     }
 }
 
-fn shown_bext<'a>(version: u16, field: BextField, raw: &'a [u8]) -> Option<ShownText<'a>>
+/// What the bytes of a field of `bext` show, where it tells this version. None where they show nothing.
+pub fn shown_bext<'a>(version: u16, field: BextField, raw: &'a [u8]) -> Option<ShownText<'a>>
     requires { FormHasNumber (form_of field) raw.now }
     ensures { option_map text_of result ≡ spec.shown_form (form_of field) version raw.now }
 {
