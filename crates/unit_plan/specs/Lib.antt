@@ -1,2 +1,5 @@
 pub mod Shapes
 pub mod Places
+pub mod Rows
+pub mod Cuts
+pub mod Sized

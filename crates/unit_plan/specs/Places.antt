@@ -18,5 +18,5 @@ shape_in b p = shape_by (window b p.at p.next) (p.next - p.at) p.lacks_pad p.par
 
 -- the places follow each other from a place up to an end
 abbrev pub Follow : ℕ → List Place → ℕ → Type 0
-Follow at [] end = at ≤ end
+Follow at [] end = at ≡ end
 Follow at (p ∷ ps) end = (p.at ≡ at) × (p.at ≤ p.next) × (p.next ≤ end) × Follow p.next ps end

@@ -1,0 +1,4 @@
+pub mod Outcomes
+pub mod Slots
+pub mod Spans
+pub mod Stepped
