@@ -1,7 +1,7 @@
 -- One item more.
-use Rattle.std.proofs.Common.{◌≡◌, ◌∙◌, ◌+◌, ◌-◌, ℕ, List, [], ◌∷◌, ◌++◌, length, map, take, drop, ap, sym, refl, arith, append_assoc, length-append, zero, suc, ◌<◌, ◌≤◌, ◌^◌, get_or, codes, subst}
+use Rattle.std.proofs.Common.{◌≡◌, ◌∙◌, ◌+◌, ◌-◌, ℕ, List, [], ◌∷◌, ◌++◌, length, map, drop, ap, sym, refl, arith, append_assoc, length-append, zero, suc, ◌<◌, ◌≤◌, ◌^◌, get_or, codes, subst, min}
 use Rattle.std.proofs.lemmas.List.{take_all, length-drop}
-use Rattle.container_model.specs.Chunk.{Chunk, Run, ends, and_then, spell, spell_all}
+use Rattle.container_model.specs.Chunk.{Chunk, Run, and_then, spell, spell_all}
 use Rattle.std.specs.List.{AllByRecursion}
 use Rattle.std.proofs.lemmas.List.{at_drop_more, at_drop_all, append-nil}
 use Rattle.container_model.specs.Windows.{window}
@@ -40,15 +40,15 @@ items_again : (items : List InfoItem) → map item_of (map remade (map chunk_of 
 items_again [] = refl
 items_again (i ∷ items) = ap (λ (is : List InfoItem). i ∷ is) (items_again items)
 
-spelled_short : (list : InfoList) → IsSpellable list → length (spell_all (map remade (map chunk_of list.items))) < 2 ^ 32
+spelled_short : (list : InfoList) → length (list_chunk list).body < 2 ^ 32 → length (spell_all (map remade (map chunk_of list.items))) < 2 ^ 32
 spelled_short list h =
     let items = spell_all (map remade (map chunk_of list.items)) in
-    omega (arith, h.small, length-append (codes "INFO") (items ++ list.rest), length-append items list.rest)
+    omega (arith, h, length-append (codes "INFO") (items ++ list.rest), length-append items list.rest)
 
 -- the items are read back
 pub reads_back : (list : InfoList) → IsSpellable list → IsInfo (inner list) list
 reads_back list h =
-    let again = list_again (map chunk_of list.items) list.rest (plain_items list.items h.ids) h.short (spelled_short list h) in
+    let again = list_again (map chunk_of list.items) list.rest (plain_items list.items h.ids) h.short (spelled_short list h.small) in
     record {
       stop = ap (λ (r : Run). r.stop) again;
       items = sym (ap (λ (r : Run). map item_of r.chunks) again ∙ items_again list.items);
@@ -74,12 +74,12 @@ item_short (i ∷ items) zero d h =
 item_short (i ∷ items) (suc k) d h =
     omega (arith, item_short items k d (omega arith), length-append (spell (remade (chunk_of i))) (spell_all (map remade (map chunk_of items))))
 
-pub item_small : (list : InfoList) (k : ℕ) (d : InfoItem) → IsSpellable list → k < length list.items → length (get_or list.items k d).raw < 2 ^ 32
+pub item_small : (list : InfoList) (k : ℕ) (d : InfoItem) → length (list_chunk list).body < 2 ^ 32 → k < length list.items → length (get_or list.items k d).raw < 2 ^ 32
 item_small list k d h inside = omega (arith, item_short list.items k d inside, spelled_short list h)
 
 -- ---- a step of the loop, where an item is read of the same list
 
-pub read_small : (list : InfoList) (xs : List InfoItem) (k : ℕ) (i : InfoItem) → IsSpellable list → xs ≡ list.items → i ≡ get_or xs k i → k < length xs → length i.raw < 2 ^ 32
+pub read_small : (list : InfoList) (xs : List InfoItem) (k : ℕ) (i : InfoItem) → length (list_chunk list).body < 2 ^ 32 → xs ≡ list.items → i ≡ get_or xs k i → k < length xs → length i.raw < 2 ^ 32
 read_small list xs k i h same is inside =
     let P : List InfoItem → Type 0 = λ ys. k < length ys in
     let n : length i.raw ≡ length (get_or list.items k i).raw = ap (λ (j : InfoItem). length j.raw) (is ∙ ap (λ (ys : List InfoItem). get_or ys k i) same) in
@@ -100,3 +100,22 @@ pub spelled_end : (items xs : List InfoItem) (k : ℕ) (body whole : List ℕ) �
 spelled_end items xs k body whole same past so_far =
     let P : List InfoItem → Type 0 = λ ys. length ys ≤ k in
     sym (append-nil body) ∙ ap (λ (b : List ℕ). body ++ b) (sym (bytes_end items k (subst P same past))) ∙ so_far
+
+-- ---- lengths, of which those above a limit are not told apart
+
+pub len_more : (items xs : List InfoItem) (k : ℕ) (i : InfoItem) (len next whole limit : ℕ) → xs ≡ items → i ≡ get_or xs k i → k < length xs
+    → next ≡ min (len + length (item_bytes i)) limit → min (len + length (bytes_from k items)) limit ≡ whole → min (next + length (bytes_from (k + 1) items)) limit ≡ whole
+len_more items xs k i len next whole limit same is inside step so_far =
+    let P : List InfoItem → Type 0 = λ ys. k < length ys in
+    let here : get_or items k i ≡ i = sym (is ∙ ap (λ (ys : List InfoItem). get_or ys k i) same) in
+    let split : length (bytes_from k items) ≡ length (item_bytes i ++ bytes_from (k + 1) items) =
+    ap length (bytes_next items k i (subst P same inside) ∙ ap (λ (j : InfoItem). item_bytes j ++ bytes_from (k + 1) items) here)
+    in
+    omega (arith, split, length-append (item_bytes i) (bytes_from (k + 1) items), step, so_far)
+
+pub len_end : (list : InfoList) (xs : List InfoItem) (k len result limit : ℕ) → xs ≡ list.items → length xs ≤ k → result ≡ min (len + length list.rest) limit
+    → min (len + length (bytes_from k list.items)) limit ≡ min (4 + length (bytes_from 0 list.items)) limit → result ≡ min (length (list_chunk list).body) limit
+len_end list xs k len result limit same past step so_far =
+    let P : List InfoItem → Type 0 = λ ys. length ys ≤ k in
+    let none : length (bytes_from k list.items) ≡ 0 = ap (λ (b : List ℕ). length b) (bytes_end list.items k (subst P same past)) in
+    omega (arith, none, step, so_far, length-append (codes "INFO") (bytes_from 0 list.items ++ list.rest), length-append (bytes_from 0 list.items) list.rest)

@@ -2,9 +2,11 @@
 use Rattle.std.specs.Prelude.{◌≡◌, ◌≤◌, ◌<◌, ℕ, ◌^◌, ◌%◌, List, map, length, drop, replicate, [], Result}
 use Rattle.std.specs.List.{AllByRecursion}
 use Rattle.std.specs.declared.result.Result.TheVariants.{Ok, Err}
-use Rattle.container_model.specs.Chunk.{riff, Chunk, Run, Stop, ends, passes, spell, spell_all, chunks}
+use Rattle.container_model.specs.Chunk.{riff, Chunk, Run, ends, passes, spell, spell_all, chunks}
 use Rattle.container_model.specs.Sizes.{plain, riff_front}
-use Rattle.carrier_model.specs.Info.{list_of, remade}
+use Rattle.container_model.specs.Deep.{Token}
+use Rattle.container_model.specs.Items.{item_token}
+use Rattle.carrier_model.specs.Info.{info_items, list_of, made, remade}
 use Rattle.part_tree.specs.Letters.{four}
 use Rattle.info_list.specs.declared.InfoItem.{InfoItem}
 use Rattle.info_list.specs.declared.InfoList.{InfoList}
@@ -53,6 +55,22 @@ list_chunk list = list_of (map chunk_of list.items) list.rest
 -- an item, with a pad of 0 where its length is odd
 abbrev pub item_bytes : InfoItem → List ℕ
 item_bytes i = spell (remade (chunk_of i))
+
+-- ---- the items as the chunks that they are spelled as
+
+-- an item's chunk, with a pad of 0 where there is one
+abbrev pub made_of : InfoItem → Chunk
+made_of i = made i.id.0 i.raw
+
+-- the chunks of a list's items
+abbrev pub chunks_of : InfoList → List Chunk
+chunks_of list = map made_of list.items
+
+-- the marks of the items that are fields, and the others as they stand
+abbrev pub tokens_of : InfoList → List Token
+tokens_of list = map (item_token info_items) (chunks_of list)
+
+-- ---- a list that can be read again
 
 -- the bytes behind the word INFO
 abbrev pub inner : InfoList → List ℕ

@@ -1,12 +1,18 @@
-//! The items of a `LIST` of type `INFO` (Multimedia Programming Interface and Data Specifications 1.0, "INFO list chunk"),
-//! read from a body and spelled as a list. It knows no name of a field.
+//! The items of a `LIST` of type `INFO` (Multimedia Programming Interface and Data Specifications 1.0, "INFO list chunk"):
+//! read from a body, changed by fields' names, and spelled as a list. It knows no text of a field and no kind of file.
 #![tactic(auto)]
 
-ghost use Rattle.std.specs.Prelude.{◌≡◌, ℕ, List, IfErr, IfOk, length, ◌<◌, ◌^◌, ◌≤◌, take, drop, ◌++◌, OnOk, OnErr};
-ghost use Rattle.container_model.specs.Chunk.{spell};
+ghost use Rattle.std.specs.Prelude.{◌≡◌, ℕ, List, [], IfErr, IfOk, length, min, ◌<◌, ◌^◌, ◌-◌, ◌+◌, ◌≤◌, take, drop, ◌++◌, OnOk, OnErr};
+ghost use Rattle.container_model.specs.Chunk.{Chunk, spell};
+ghost use Rattle.container_model.specs.Items.{Item, edit_carrier, put_all};
+ghost use Rattle.carrier_model.specs.Info.{info, info_items};
+ghost use Rattle.carrier_model.specs.Lists.{items_of};
 ghost use Rattle.info_list.specs.declared.InfoList.{InfoList};
-ghost use Rattle.info_list.specs.Info.{IsInfo, IsSpellable, IsWithin, ReadsInfo, inner, item_bytes, list_chunk, pad_of};
+ghost use Rattle.info_list.specs.Info.{IsInfo, IsSpellable, IsWithin, ReadsInfo, chunks_of, inner, item_bytes, list_chunk, pad_of, tokens_of};
 
+mod edit;
+
+pub use edit::InfoChange;
 use me_bytes::put_le32;
 use part_tree::{Bytes, FourCc, NoMemory};
 use riff_form::Walker;
@@ -97,9 +103,38 @@ pub fn read_info(alloc: Global, body: &[u8]) -> Result<InfoList, InfoFault>
     }
 }
 
+impl InfoList {
+    /// The length of the list's body in bytes, with the word `INFO` and each pad. 2 ^ 64 - 1 where it is longer.
+    pub fn body_len(&self) -> u64
+        ensures { result ≡ min (length (list_chunk self.now).body) (2 ^ 64 - 1) }
+    {
+        let mut len = 4_u64;
+        for item in self.items.as_slice() {
+            len = len.saturating_add(item_len(item));
+        }
+        len.saturating_add(self.rest.as_slice().len() as u64)
+    }
+}
+
+// The length of an item's spelling.
+fn item_len(item: &InfoItem) -> u64
+    ensures { result ≡ length (item_bytes item.now) }
+{
+    let len = item.raw.as_slice().len() as u64;
+    head_len(item.id) + len + len % 2
+}
+
+// The length of an identifier and a size.
+fn head_len(id: FourCc) -> u64
+    ensures len { result ≡ length id.0 + 4 }
+    ensures small { result ≡ 8 }
+{
+    id.0.len() as u64 + 4
+}
+
 /// The whole chunk `LIST` of these items and this rest; each pad is 0.
 pub fn spell_info(alloc: Global, list: &InfoList) -> Result<Bytes, NoMemory>
-    requires { IsSpellable list.now }
+    requires { length (list_chunk list.now).body < 2 ^ 32 }
     ensures { IfOk result (λ bytes. bytes ≡ spell (list_chunk list.now)) }
 {
     let body = list_body(alloc, list)?;
@@ -113,7 +148,7 @@ pub fn spell_info(alloc: Global, list: &InfoList) -> Result<Bytes, NoMemory>
 
 // The body: the word `INFO`, the items and the rest.
 fn list_body(alloc: Global, list: &InfoList) -> Result<Vec<u8>, NoMemory>
-    requires { IsSpellable list.now }
+    requires { length (list_chunk list.now).body < 2 ^ 32 }
     ensures { IfOk result (λ body. body.items ≡ (list_chunk list.now).body) }
 {
     let mut body = Vec::new(alloc);
@@ -146,6 +181,16 @@ fn put_pad(_alloc: Global, out: &mut Vec<u8>, len: usize) -> Result<(), NoMemory
     }
     Ok(())
 }
+
+/// Where a list was read from a chunk, the chunk of the changed list is the edited chunk, and the marks of its items are those
+/// of the chunk. The chunk of a list that was made anew is the fresh one.
+pub fn lists_are_edited()
+    ensures edited { (c : Chunk) (e : List (Item (List ℕ))) (old new : InfoList) → IsInfo (drop 4 c.body) old
+        → chunks_of new ≡ put_all info_items e (chunks_of old) → new.rest ≡ old.rest → list_chunk new ≡ edit_carrier info info_items e c }
+    ensures fresh { (e : List (Item (List ℕ))) (new : InfoList) → chunks_of new ≡ put_all info_items e [] → new.rest ≡ []
+        → list_chunk new ≡ info.fresh (put_all info_items e []) }
+    ensures marks { (c : Chunk) (list : InfoList) → IsInfo (drop 4 c.body) list → tokens_of list ≡ items_of info info_items c }
+{}
 
 /// What is spelled is read back: behind the word `INFO` of the spelling stand the items and the rest, whatever these are.
 pub fn spelled_is_read()

@@ -1,5 +1,4 @@
-use Rattle.std.proofs.Common.{◌≡◌, ◌++◌, ◌∙◌, ap, append_assoc, codes, List, ℕ}
-use Rattle.info_list.proofs.Items.{bytes_from, read_small, spelled_next, spelled_end}
+use Rattle.info_list.proofs.Items.{read_small, spelled_next}
 use Rattle.info_list.proofs.list_body.Goals as goal
 
 pub put_item-requires : goal.put_item-requires

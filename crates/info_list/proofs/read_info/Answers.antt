@@ -1,11 +1,10 @@
-use Rattle.std.proofs.Common.{rules, arith, ap, sym, ◌∙◌, ◌≡◌, ◌++◌, ◌∷◌, [], ◌+◌, List, ℕ, length, map, refl, take, drop}
+use Rattle.std.proofs.Common.{arith, ap, sym, ◌∙◌, ◌≡◌, ◌++◌, ◌∷◌, [], List, ℕ, map, take, drop}
 use Rattle.std.specs.declared.option.Option.TheVariants.{Some, None}
-use Rattle.container_model.specs.Chunk.{riff, and_then, stopped, ends, spell, spell_all, Run}
+use Rattle.container_model.specs.Chunk.{riff, Run}
 use Rattle.riff_form.specs.Walk.{Stepped, row, chunk_in}
 use Rattle.std.proofs.lemmas.List.{append-nil}
-use Rattle.info_list.specs.Info.{item_of, items_run}
-use Rattle.info_list.specs.declared.InfoItem.{InfoItem}
-use Rattle.info_list.proofs.Items.{items_more, place_more, whole_window, rest_window}
+use Rattle.info_list.specs.Info.{item_of}
+use Rattle.info_list.proofs.Items.{items_more, place_more}
 use Rattle.info_list.proofs.read_info.Goals as goal
 
 pub loop-fault-preserved : goal.loop-fault-preserved

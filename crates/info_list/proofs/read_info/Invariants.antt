@@ -1,4 +1,4 @@
-use Rattle.std.proofs.Common.{◌-◌, ◌+◌, ◌≡◌, ◌≤◌, ◌++◌, List, ℕ, length, map}
+use Rattle.std.proofs.Common.{◌-◌, ◌+◌, ◌≡◌, ◌++◌, length, map}
 use Rattle.container_model.specs.Chunk.{spell_all}
 use Rattle.riff_form.specs.Walk.{row}
 use Rattle.info_list.specs.Info.{item_of, items_run}
