@@ -26,15 +26,18 @@ pad_len short n = 0
 pad_len long n = 0
 pad_len to_end n = 0
 
+-- a chunk or an atom: how its header gives the size, its identifier, its body, and the padding behind it
 pub record Chunk : Type 0 where
   pub form : Form
   pub id : List ℕ
   pub body : List ℕ
   pub pad : List ℕ
 
+-- a chunk as bytes: header, body, pad
 abbrev pub spell : Chunk → List ℕ
 spell c = header_bytes c.form c.id (length c.body) ++ (c.body ++ c.pad)
 
+-- chunks as bytes, one after the other
 abbrev pub spell_all : List Chunk → List ℕ
 spell_all [] = []
 spell_all (c ∷ cs) = spell c ++ spell_all cs
@@ -61,25 +64,32 @@ pub record Run : Type 0 where
   pub stop : Stop
   pub left : List ℕ
 
+-- the bytes that were read into a run
 abbrev pub joined : Run → List ℕ
 joined r = spell_all r.chunks ++ r.left
 
+-- a run without a chunk
 abbrev pub stopped : Stop → List ℕ → Run
 stopped stop b = record { chunks = []; stop = stop; left = b }
 
+-- the chunk of a header, and the bytes behind that header
 abbrev pub chunk_of : Form → List ℕ → ℕ → List ℕ → Chunk
 chunk_of form id n after = record { form = form; id = id; body = take n after; pad = take (pad_len form n) (drop n after) }
 
+-- the bytes behind such a chunk and its pad
 abbrev pub behind : Form → ℕ → List ℕ → List ℕ
 behind form n after = drop (pad_len form n) (drop n after)
 
+-- a chunk before a run
 abbrev pub and_then : Chunk → Run → Run
 and_then c r = record { chunks = c ∷ r.chunks; stop = r.stop; left = r.left }
 
+-- a chunk whose body passes the end stops the reading; behind another one it goes on
 abbrev pub fit : {S : Type 0} → (S → List ℕ → Run) → List ℕ → Form → List ℕ → ℕ → List ℕ → S → Bool → Run
 fit again b form id n after next true = stopped passes b
 fit again b form id n after next false = and_then (chunk_of form id n after) (again next (behind form n after))
 
+-- what is read where such a header stands
 abbrev pub turn : {S : Type 0} → (S → List ℕ → Run) → List ℕ → Header S → Run
 turn again b too_short = stopped ends b
 turn again b no_header = stopped bad_header b
@@ -104,10 +114,12 @@ GivesBack {S} front = (s next : S) (b id after : List ℕ) (form : Form) (n : �
 abbrev pub PadStands : Form → ℕ → List ℕ → List ℕ → Type 0
 PadStands form n pad more = (length pad ≡ pad_len form n) ⊎ ((length pad ≤ pad_len form n) × (more ≡ []))
 
+-- a chunk before other bytes, read from its spelling
 pub record Stands {S : Type 0} (front : S → List ℕ → Header S) (s next : S) (c : Chunk) (more : List ℕ) : Type 0 where
   pub header_read : front s (spell c ++ more) ≡ full_header c.form c.id (length c.body) (c.body ++ (c.pad ++ more)) next
   pub padded : PadStands c.form (length c.body) c.pad more
 
+-- chunks before these bytes, each read from its spelling
 abbrev pub Reads : {S : Type 0} → (S → List ℕ → Header S) → S → List Chunk → List ℕ → Type 0
 Reads front s [] left = front s left ≡ too_short
 Reads {S} front s (c ∷ cs) left = (next : S) × Stands front s next c (spell_all cs ++ left) × Reads front next cs left
@@ -118,6 +130,7 @@ Reads {S} front s (c ∷ cs) left = (next : S) × Stands front s next c (spell_a
 abbrev pub Head : {S : Type 0} → (S → List ℕ → Header S) → S → S → Chunk → Type 0
 Head front s next c = (after : List ℕ) → front s (header_bytes c.form c.id (length c.body) ++ after) ≡ full_header c.form c.id (length c.body) after next
 
+-- the same of each of some chunks
 abbrev pub Heads : {S : Type 0} → (S → List ℕ → Header S) → S → List Chunk → Type 0
 Heads front s [] = Unit {0}
 Heads {S} front s (c ∷ cs) = (next : S) × Head front s next c × Heads front next cs

@@ -16,6 +16,7 @@ pub record Item (V : Type 0) : Type 0 where
   pub name : List ℕ
   pub value : Option V
 
+-- no elements
 abbrev pub is_nil : {V : Type 0} → List V → Bool
 is_nil [] = true
 is_nil (x ∷ xs) = false
@@ -24,12 +25,15 @@ is_nil (x ∷ xs) = false
 abbrev pub values_in : {V : Type 0} → Items V → List ℕ → Chunk → List V
 values_in it name c = if bytes_eq name (it.name_of c) then it.holds c else []
 
+-- the values of a name in all items, in order
 abbrev pub values : {V : Type 0} → Items V → List ℕ → List Chunk → List V
 values it name cs = flat_map (values_in it name) cs
 
+-- whether an item holds a value of a name
 abbrev pub hits : {V : Type 0} → Items V → List ℕ → Chunk → Bool
 hits it name c = not (is_nil (values_in it name c))
 
+-- whether one of some items does
 abbrev pub has : {V : Type 0} → Items V → List ℕ → List Chunk → Bool
 has it name [] = false
 has it name (c ∷ cs) = hits it name c || has it name cs
@@ -39,47 +43,57 @@ abbrev pub settled : {V : Type 0} → Items V → List ℕ → List Chunk → Li
 settled it name new [] = []
 settled it name new (c ∷ cs) = if hits it name c then new ++ settled it name [] cs else c ∷ settled it name new cs
 
+-- the items after one value is set, or all of a name are taken away; a new item stands last
 abbrev pub put_value : {V : Type 0} → Items V → List ℕ → Option V → List Chunk → List Chunk
 put_value it name None cs = settled it name [] cs
 put_value it name (Some v) cs = if has it name cs then settled it name (it.make name v ∷ []) cs else cs ++ it.make name v ∷ []
 
+-- the items after an edit
 abbrev pub put_all : {V : Type 0} → Items V → List (Item V) → List Chunk → List Chunk
 put_all it [] cs = cs
 put_all it (i ∷ e) cs = put_all it e (put_value it i.name i.value cs)
 
 -- ---- the values after an edit
 
+-- a value, if there is one, as a list
 abbrev pub listed : {V : Type 0} → Option V → List V
 listed None = []
 listed (Some v) = v ∷ []
 
+-- the values of a name after an edit
 abbrev pub updated : {V : Type 0} → List (Item V) → List ℕ → List V → List V
 updated [] name vs = vs
 updated (i ∷ e) name vs = updated e name (if bytes_eq name i.name then listed i.value else vs)
 
 -- ---- where the items stand after an edit
 
+-- a field is told by its name alone, any other item by all its bytes
 abbrev pub item_token : {V : Type 0} → Items V → Chunk → Token
 item_token it c = if is_nil (it.holds c) then leaf c.form c.id c.body else mark (it.name_of c)
 
+-- whether a token tells a field of a name
 abbrev pub is_mark : List ℕ → Token → Bool
 is_mark name (mark m) = bytes_eq name m
 is_mark name (Token.opened form id body) = false
 is_mark name (Token.closed rest) = false
 is_mark name (leaf form id body) = false
 
+-- whether one of some tokens does
 abbrev pub has_mark : List ℕ → List Token → Bool
 has_mark name [] = false
 has_mark name (t ∷ ts) = is_mark name t || has_mark name ts
 
+-- the first field of a name is replaced, and the others are taken away
 abbrev pub settled_marks : List ℕ → List Token → List Token → List Token
 settled_marks name new [] = []
 settled_marks name new (t ∷ ts) = if is_mark name t then new ++ settled_marks name [] ts else t ∷ settled_marks name new ts
 
+-- the tokens after one value is set or taken away
 abbrev pub put_mark : {V : Type 0} → List ℕ → Option V → List Token → List Token
 put_mark name None ts = settled_marks name [] ts
 put_mark name (Some v) ts = if has_mark name ts then settled_marks name (mark name ∷ []) ts else ts ++ mark name ∷ []
 
+-- the tokens after an edit
 abbrev pub put_marks : {V : Type 0} → List (Item V) → List Token → List Token
 put_marks [] ts = ts
 put_marks (i ∷ e) ts = put_marks e (put_mark i.name i.value ts)
@@ -91,6 +105,7 @@ abbrev pub IsMade : {V : Type 0} → Items V → List ℕ → Option V → Type 
 IsMade it name None = Unit {0}
 IsMade it name (Some v) = (it.name_of (it.make name v) ≡ name) × (it.holds (it.make name v) ≡ v ∷ [])
 
+-- the same of each item of an edit
 abbrev pub AreMade : {V : Type 0} → Items V → List (Item V) → Type 0
 AreMade it e = AllByRecursion (λ i. IsMade it i.name i.value) e
 
@@ -101,6 +116,7 @@ pub record Carrier : Type 0 where
   pub closing : Chunk → List Chunk → List ℕ → Chunk
   pub fresh : List Chunk → Chunk
 
+-- a carrier after an edit: opened, edited, closed with the rest that it had
 abbrev pub edit_carrier : {V : Type 0} → Carrier → Items V → List (Item V) → Chunk → Chunk
 edit_carrier k it e c = k.closing c (put_all it e (k.opening c).chunks) (k.opening c).left
 

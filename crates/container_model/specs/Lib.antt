@@ -10,3 +10,4 @@ pub mod Windows
 pub mod Rows
 pub mod Walk
 pub mod Cuts
+pub mod Ds64

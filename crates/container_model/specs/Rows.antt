@@ -12,9 +12,11 @@ pub record Width : Type 0 where
 abbrev pub le16 : Width
 le16 = record { bytes = 2; get = from_le_bytes w16; put = to_le_bytes w16 }
 
+-- four bytes, the last one first
 abbrev pub le32 : Width
 le32 = record { bytes = 4; get = from_le_bytes w32; put = to_le_bytes w32 }
 
+-- eight bytes, the last one first
 abbrev pub le64 : Width
 le64 = record { bytes = 8; get = from_le_bytes w64; put = to_le_bytes w64 }
 
@@ -22,6 +24,7 @@ le64 = record { bytes = 8; get = from_le_bytes w64; put = to_le_bytes w64 }
 abbrev pub be32 : Width
 be32 = record { bytes = 4; get = from_be_bytes w32; put = to_be_bytes w32 }
 
+-- eight bytes, the first one first
 abbrev pub be64 : Width
 be64 = record { bytes = 8; get = from_be_bytes w64; put = to_be_bytes w64 }
 
@@ -35,6 +38,7 @@ abbrev pub changed_by : Width → (ℕ → ℕ) → List ℕ → List ℕ → Bo
 changed_by w f b more true = b
 changed_by w f b more false = w.put (f (w.get (take w.bytes b))) ++ more
 
+-- the bytes with each of the first k numbers changed
 abbrev pub changed : Width → (ℕ → ℕ) → ℕ → List ℕ → List ℕ
 changed w f zero b = b
 changed w f (suc k) b = changed_by w f b (changed w f k (drop w.bytes b)) (nat_lt (length b) w.bytes)
@@ -50,5 +54,6 @@ spelled w (n ∷ ns) = w.put n ++ spelled w ns
 abbrev pub field : Width → ℕ → List ℕ → ℕ
 field w at row = w.get (take w.bytes (drop at row))
 
+-- the row with another number at a place
 abbrev pub with_field : Width → ℕ → ℕ → List ℕ → List ℕ
 with_field w at n row = take at row ++ (w.put n ++ drop w.bytes (drop at row))

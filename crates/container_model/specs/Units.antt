@@ -16,9 +16,11 @@ was (kept c) = c ∷ []
 was (gap c) = c ∷ []
 was (edited old now) = old
 
+-- a chunk with its whole pad, as zeros
 abbrev pub padded : Chunk → Chunk
 padded c = record c { pad = replicate (pad_len c.form (length c.body)) 0 }
 
+-- whether a chunk's pad is missing
 abbrev pub lacks_pad : Chunk → Bool
 lacks_pad c = nat_lt (length c.pad) (pad_len c.form (length c.body))
 
@@ -33,10 +35,12 @@ pub data Slot : Type 0 where
   shut : Slot
   begun : List Chunk → List ℕ → List Chunk → Slot
 
+-- no cells
 abbrev pub is_empty : List Cell → Bool
 is_empty [] = true
 is_empty (x ∷ xs) = false
 
+-- a unit that ends here, where one has begun
 abbrev pub closed : Bool → Slot → List Piece
 closed last shut = []
 closed last (begun lead slot now) = replaced lead slot now last ∷ []
@@ -65,6 +69,7 @@ abbrev pub lead_pad : List Chunk → List ℕ
 lead_pad [] = []
 lead_pad (c ∷ cs) = 0 ∷ []
 
+-- the bytes that stand in a unit's slot, before its padding
 abbrev pub unit_bytes : List Chunk → List Chunk → List ℕ
 unit_bytes lead now = lead_pad lead ++ spell_all now
 
@@ -72,10 +77,12 @@ unit_bytes lead now = lead_pad lead ++ spell_all now
 abbrev pub Fill : Type 0
 Fill = Bool → List ℕ → ℕ → List Chunk
 
+-- the chunks that stand where a piece was
 abbrev pub now_chunks : Fill → Piece → List Chunk
 now_chunks fill (copied c) = c ∷ []
 now_chunks fill (replaced lead slot now last) = map padded lead ++ (now ++ fill last slot (length (unit_bytes lead now)))
 
+-- the chunks that stand where some pieces were
 abbrev pub lay : Fill → List Piece → List Chunk
 lay fill ps = flat_map (now_chunks fill) ps
 
@@ -84,6 +91,7 @@ abbrev pub cut_of : Fill → ℕ → List Chunk → List ℕ → List Chunk → 
 cut_of fill at lead slot now last =
     record { at = at + length (spell_all lead); len = length slot; bytes = unit_bytes lead now ++ spell_all (fill last slot (length (unit_bytes lead now))) }
 
+-- the slots of pieces that begin at a place, and what replaces them
 abbrev pub cuts : Fill → ℕ → List Piece → List Cut
 cuts fill at [] = []
 cuts fill at (copied c ∷ ps) = cuts fill (at + length (spell c)) ps
@@ -93,6 +101,7 @@ cuts fill at (replaced lead slot now last ∷ ps) = cut_of fill at lead slot now
 abbrev pub solid : (List ℕ → Bool) → Chunk → List Chunk
 solid is_padding c = if is_padding c.id then [] else record c { pad = [] } ∷ []
 
+-- the same of a list
 abbrev pub solids : (List ℕ → Bool) → List Chunk → List Chunk
 solids is_padding cs = flat_map (solid is_padding) cs
 

@@ -24,6 +24,7 @@ walk_at f deeper at c None = []
 walk_at f deeper at c (Some q) =
     along (deeper q) (body_at at c + f.prefix q) (kids f q c).chunks ++ end_at q (body_at at c + (f.prefix q + length (spell_all (kids f q c).chunks))) (kids f q c).stop ∷ []
 
+-- what is met in a chunk that stands at a place, so many levels deep
 unfoldable pub walk : {P S : Type 0} → Format P S → ℕ → P → ℕ → Chunk → List (Step P)
 walk f zero p at c = chunk_at p at c ∷ []
 walk f (suc d) p at c = chunk_at p at c ∷ walk_at f (walk f d) at c (f.opens p c.id (take 4 c.body))
@@ -33,6 +34,7 @@ abbrev pub nested_at : {P S : Type 0} → Format P S → (P → Chunk → List (
 nested_at f deeper c None = []
 nested_at f deeper c (Some q) = flat_map (deeper q) (kids f q c).chunks
 
+-- a chunk and the chunks in it, so many levels deep
 unfoldable pub nested : {P S : Type 0} → Format P S → ℕ → P → Chunk → List (Leaf P)
 nested f zero p c = stands p c ∷ []
 nested f (suc d) p c = stands p c ∷ nested_at f (nested f d) c (f.opens p c.id (take 4 c.body))

@@ -14,6 +14,7 @@ pub record Range : Type 0 where
   pub at : ℕ
   pub len : ℕ
 
+-- so many bytes from a place on
 abbrev pub range : ℕ → ℕ → Range
 range at len = record { at = at; len = len }
 
@@ -31,6 +32,7 @@ range_from (r ∷ rs) (suc k) n = range_from rs k n
 abbrev pub range_at : ℕ → ℕ → ℕ
 range_at k n = (range_from ranges k n).at
 
+-- how long the k-th range is in a body of so many bytes
 abbrev pub range_len : ℕ → ℕ → ℕ
 range_len k n = (range_from ranges k n).len
 
@@ -96,6 +98,7 @@ abbrev pub blank_form : Form → ℕ → List ℕ
 blank_form Loudness n = no_loudness
 blank_form _ n = replicate n 0
 
+-- the bytes of a field of `bext` without a value
 abbrev pub blank : BextField → List ℕ
 blank field = blank_form (form_of field) (width field)
 
@@ -105,5 +108,6 @@ since_form form.Umid = 1
 since_form Loudness = 2
 since_form _ = 0
 
+-- the version that a field came with
 abbrev pub since : BextField → ℕ
 since field = since_form (form_of field)

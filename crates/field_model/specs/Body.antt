@@ -10,14 +10,17 @@ use Rattle.field_model.specs.Bext.{lay_range, raised, range_of, width}
 use Rattle.field_model.specs.Fields.{FieldMap, plain}
 use Rattle.field_model.specs.Update.{RawItem, needed}
 
+-- the body with what an item lays in it
 abbrev pub lay_item : FieldName → Option Value → List ℕ → List ℕ
 lay_item (Bext field) (Some v) body = lay_range (bext_row field) v.raw body
 lay_item _ _ body = body
 
+-- the body with what each item lays in it, in order
 abbrev pub lay_items : List RawItem → List ℕ → List ℕ
 lay_items [] body = body
 lay_items (i ∷ e) body = lay_items e (lay_item i.name i.value body)
 
+-- the body after an edit
 abbrev pub edited_bext : List RawItem → List ℕ → List ℕ
 edited_bext e body = lay_items e (raised (needed e) body)
 
@@ -31,6 +34,7 @@ FitsBext (Bext field) None = ⊥
 FitsBext (Bext field) (Some v) = (v.lang ≡ 0) × FillsRange field v.raw
 FitsBext _ value = Unit {0}
 
+-- the same of each item
 abbrev pub FitBext : List RawItem → Type 0
 FitBext e = AllByRecursion (λ i. FitsBext i.name i.value) e
 

@@ -28,6 +28,7 @@ pub data Test : Type 0 where
   on_item : (Kind → EditItem → Bool) → Test
   on_fields : (Kind → List FieldName) → (FieldMap → FieldName → Bool) → Test
 
+-- a rule: the set that it belongs to, and its test
 pub record Rule : Type 0 where
   pub set : RuleSet
   pub test : Test
@@ -41,10 +42,12 @@ is_wave Rf64 = true
 is_wave Avi = false
 is_wave Mov = false
 
+-- whether a file is a QuickTime movie
 abbrev pub is_movie : Kind → Bool
 is_movie Mov = true
 is_movie _ = false
 
+-- whether a file of a kind can have a field
 abbrev pub has_field : Kind → FieldName → Bool
 has_field kind (name.Bext field) = is_wave kind
 has_field kind (name.Info id) = not (is_movie kind)
@@ -56,6 +59,7 @@ abbrev pub set_fails : TextRule → FieldName → Change → Bool
 set_fails rule name (Set text) = rule name text
 set_fails rule name Remove = false
 
+-- a rule that looks at each text that is set
 abbrev pub on_text : TextRule → Test
 on_text rule = on_item (λ kind item. set_fails rule item.name item.change)
 
@@ -69,17 +73,21 @@ some_text fails f name = list_any fails (shown_texts f name)
 abbrev pub shows_too_little : FieldMap → FieldName → Bool
 shows_too_little f name = (length (shown_texts f name) == 0) || some_text (λ text. length text == 0) f name
 
+-- whether the last byte is 0
 abbrev pub ends_with_zero : List ℕ → Bool
 ends_with_zero [] = false
 ends_with_zero (x ∷ []) = x == 0
 ends_with_zero (x ∷ y ∷ xs) = ends_with_zero (y ∷ xs)
 
+-- the same fields in files of each kind
 abbrev pub always : List FieldName → Kind → List FieldName
 always names kind = names
 
+-- a rule on the texts that fields of `bext` show
 abbrev pub on_bext : List FieldName → (List ℕ → Bool) → Test
 on_bext names fails = on_fields (always names) (some_text fails)
 
+-- all INFO fields, in field order
 abbrev pub info_names : List FieldName
 info_names = map (λ id. name.Info (four id)) info_ids
 
@@ -89,11 +97,13 @@ description_fields Avi = name.Info (four (codes "INAM")) ∷ []
 description_fields Mov = name.User (four (169 ∷ codes "nam")) ∷ []
 description_fields _ = name.Bext Description ∷ []
 
+-- the fields that tell who made it
 abbrev pub originator_fields : Kind → List FieldName
 originator_fields Avi = name.Info (four (codes "IARL")) ∷ []
 originator_fields Mov = []
 originator_fields _ = name.Bext Originator ∷ []
 
+-- the fields that tell when it was made
 abbrev pub date_fields : Kind → List FieldName
 date_fields Avi = name.Info (four (codes "ICRD")) ∷ []
 date_fields Mov = name.User (four (169 ∷ codes "day")) ∷ []
@@ -101,18 +111,23 @@ date_fields _ = name.Bext OriginationDate ∷ []
 
 -- ---- the table
 
+-- a rule of the set Base
 abbrev pub base : Test → Rule
 base test = record { set = Base; test = test }
 
+-- a rule of the set Ebu
 abbrev pub ebu : Test → Rule
 ebu test = record { set = Ebu; test = test }
 
+-- a rule of the set Info
 abbrev pub info : Test → Rule
 info test = record { set = set.Info; test = test }
 
+-- a rule of the set Fadgi
 abbrev pub fadgi : Test → Rule
 fadgi test = record { set = Fadgi; test = test }
 
+-- the 24 rules, in order
 abbrev pub rules : List Rule
 rules =
     base (on_item (λ kind item. not (has_field kind item.name)))
@@ -156,6 +171,7 @@ abbrev pub first_of : FieldName → List FieldName → List FieldName
 first_of name [] = name ∷ []
 first_of name (m ∷ names) = if nat_le (field_place name) (field_place m) then name ∷ [] else m ∷ []
 
+-- the first of some names in field order, if there is one
 abbrev pub first_name : List FieldName → List FieldName
 first_name [] = []
 first_name (name ∷ names) = first_of name (first_name names)
@@ -171,9 +187,11 @@ findings_from n [] kind f e sets = []
 findings_from n (r ∷ rs) kind f e sets =
     (if chooses sets r.set then map (λ name. record { rule = n; field = name }) (failing r.test kind f e) else []) ++ findings_from (suc n) rs kind f e sets
 
+-- each chosen rule that is broken, and each field that breaks it
 abbrev pub findings : Kind → FieldMap → List EditItem → RuleSet → List Broken
 findings kind f e sets = findings_from 1 rules kind f e sets
 
+-- the first finding, if there is one
 abbrev pub first_found : List Broken → Option Broken
 first_found [] = None
 first_found (b ∷ bs) = Some b

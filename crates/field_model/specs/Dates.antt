@@ -28,14 +28,17 @@ number_at at n text = digits_value 10 (take n (drop at text))
 abbrev pub is_leap : ℕ → Bool
 is_leap year = (year % 4 == 0) && (not (year % 100 == 0) || (year % 400 == 0))
 
+-- the days of a month of a year
 abbrev pub month_days : ℕ → ℕ → ℕ
 month_days year month =
     if month == 2 then (if is_leap year then 29 else 28)
     else (if (month == 4) || (month == 6) || (month == 9) || (month == 11) then 30 else 31)
 
+-- whether a month exists
 abbrev pub month_exists : ℕ → Bool
 month_exists month = nat_le 1 month && nat_le month 12
 
+-- whether a year, month and day are a date
 abbrev pub date_exists : ℕ → ℕ → ℕ → Bool
 date_exists year month day = month_exists month && (nat_le 1 day && nat_le day (month_days year month))
 
@@ -51,6 +54,7 @@ is_time text = has_form (codes "ddsddsdd") text && (nat_le (number_at 0 2 text) 
 abbrev pub spelled_date : List ℕ → List ℕ
 spelled_date text = take 4 text ++ (codes "-" ++ (take 2 (drop 5 text) ++ (codes "-" ++ take 2 (drop 8 text))))
 
+-- a time with the separators that are written
 abbrev pub spelled_time : List ℕ → List ℕ
 spelled_time text = take 2 text ++ (codes ":" ++ (take 2 (drop 3 text) ++ (codes ":" ++ take 2 (drop 6 text))))
 
@@ -58,6 +62,7 @@ spelled_time text = take 2 text ++ (codes ":" ++ (take 2 (drop 3 text) ++ (codes
 abbrev pub is_month : List ℕ → Bool
 is_month text = has_form (codes "dddd-dd") text && month_exists (number_at 5 2 text)
 
+-- whether a text is a year, a month and a day
 abbrev pub is_day : List ℕ → Bool
 is_day text = has_form (codes "dddd-dd-dd") text && date_exists (number_at 0 4 text) (number_at 5 2 text) (number_at 8 2 text)
 

@@ -6,6 +6,7 @@ use Rattle.part_tree.specs.declared.field.FieldName.{FieldName}
 use Rattle.part_tree.specs.declared.field.FieldName.TheVariants.{Bext}
 use Rattle.part_tree.specs.declared.field.Value.{Value}
 
+-- the values of each name
 abbrev pub FieldMap : Type 0
 FieldMap = FieldName → List Value
 

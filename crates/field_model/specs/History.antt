@@ -23,6 +23,7 @@ is_item (k ∷ e ∷ value) =
 abbrev pub first_letter : List ℕ → ℕ
 first_letter item = get_or item 0 0
 
+-- no two are the same
 abbrev pub are_distinct : List (List ℕ) → Bool
 are_distinct [] = true
 are_distinct (i ∷ items) = not (list_any (λ j. first_letter i == first_letter j) items) && are_distinct items
@@ -35,9 +36,11 @@ is_items_line line = list_all is_item (pieces 44 line) && are_distinct (pieces 4
 abbrev pub without_last : List ℕ → List ℕ
 without_last line = take (length line - 1) line
 
+-- whether the last byte is CR
 abbrev pub ends_with_cr : List ℕ → Bool
 ends_with_cr line = get_or line (length line - 1) 0 == 13
 
+-- whether a line, without its LF, is a line of a coding history
 abbrev pub is_history_line : List ℕ → Bool
 is_history_line line = ends_with_cr line && is_items_line (without_last line)
 
@@ -47,5 +50,6 @@ are_lines [] = true
 are_lines (line ∷ []) = length line == 0
 are_lines (line ∷ next ∷ lines) = is_history_line line && are_lines (next ∷ lines)
 
+-- whether a text is a coding history
 abbrev pub is_history : List ℕ → Bool
 is_history text = are_lines (pieces 10 text)

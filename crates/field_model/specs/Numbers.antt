@@ -21,6 +21,7 @@ count_of text = if is_numeral text && nat_lt (digits_value 10 text) (2 ^ 64) the
 abbrev pub two_digits : ℕ → List ℕ
 two_digits n = (48 + n / 10) ∷ (48 + n % 10) ∷ []
 
+-- a number of hundredths as a text
 abbrev pub hundredths_text : ℕ → List ℕ
 hundredths_text n = decimal (n / 100) ++ (codes "." ++ two_digits (n % 100))
 
@@ -28,6 +29,7 @@ hundredths_text n = decimal (n / 100) ++ (codes "." ++ two_digits (n % 100))
 abbrev pub loudness_text : ℕ → List ℕ
 loudness_text n = if nat_lt n 32768 then hundredths_text n else codes "-" ++ hundredths_text (65536 - n)
 
+-- whether a byte is the decimal point
 abbrev pub is_point : ℕ → Bool
 is_point x = x == 46
 
@@ -48,9 +50,11 @@ is_negative (x ∷ xs) = x == 45
 abbrev pub positive_loudness : List ℕ → Option ℕ
 positive_loudness text = if is_hundredths text && nat_le (hundredths_of text) 32766 then Some (hundredths_of text) else None
 
+-- the value of a loudness text behind its sign
 abbrev pub negative_loudness : List ℕ → Option ℕ
 negative_loudness text = if is_hundredths text && (nat_le 1 (hundredths_of text) && nat_le (hundredths_of text) 32768) then Some (65536 - hundredths_of text) else None
 
+-- the value of a loudness text, as 16 bits
 abbrev pub loudness_of : List ℕ → Option ℕ
 loudness_of text = if is_negative text then negative_loudness (drop 1 text) else positive_loudness text
 
@@ -60,6 +64,7 @@ loudness_of text = if is_negative text then negative_loudness (drop 1 text) else
 abbrev pub hex : Bool → ℕ → List ℕ
 hex upper x = digit_glyph upper (x / 16) ∷ digit_glyph upper (x % 16) ∷ []
 
+-- bytes as hexadecimal digits, in upper or lower case
 abbrev pub hex_text : Bool → List ℕ → List ℕ
 hex_text upper raw = flat_map (hex upper) raw
 

@@ -20,6 +20,7 @@ fits_width field text = (bext_row field == 14) || nat_le (length text) (width fi
 abbrev pub padded : BextField → List ℕ → List ℕ
 padded field text = text ++ replicate (width field - length text) 0
 
+-- the bytes of a text in a field of `bext` of a form
 abbrev pub raw_form : Form → BextField → List ℕ → Option (List ℕ)
 raw_form Text field text = if fits_width field text then Some (padded field text) else None
 raw_form Date field text = if is_date text then Some (spelled_date text) else None
@@ -30,6 +31,7 @@ raw_form Umid field text = if is_hex 128 text then Some (hex_bytes text) else No
 raw_form Loudness field text = option_map (le_bytes 2) (loudness_of text)
 raw_form Reserved field text = None
 
+-- the bytes of a text in a whole chunk
 abbrev pub raw_whole : List ℕ → List ℕ → Option (List ℕ)
 raw_whole id text = if bytes_eq id (codes "MD5 ") then (if is_hex 32 text then Some (hex_bytes text) else None) else Some text
 

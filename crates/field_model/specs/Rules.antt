@@ -32,22 +32,27 @@ abbrev pub is_form : Form → FieldName → Bool
 is_form form (Bext field) = form_number (form_of field) == form_number form
 is_form form _ = false
 
+-- whether a name is of INFO
 abbrev pub is_info : FieldName → Bool
 is_info (Info id) = true
 is_info _ = false
 
+-- whether a name is of user data
 abbrev pub is_user : FieldName → Bool
 is_user (User id) = true
 is_user _ = false
 
+-- whether a name is of a whole chunk
 abbrev pub is_whole : FieldName → Bool
 is_whole (Whole id) = true
 is_whole _ = false
 
+-- whether a name is of the checksum
 abbrev pub is_checksum : FieldName → Bool
 is_checksum (Whole id) = bytes_eq id.0 (codes "MD5 ")
 is_checksum _ = false
 
+-- whether a name is that of the coding history
 abbrev pub is_history_name : FieldName → Bool
 is_history_name (Bext field) = bext_row field == 14
 is_history_name _ = false
@@ -72,6 +77,7 @@ is_bext_letter name x = is_printable x || (is_history_name name && ((x == 13) ||
 abbrev pub has_other_letter : TextRule
 has_other_letter name text = is_form Text name && not (list_all (is_bext_letter name) text)
 
+-- whether a text is longer than its range of `bext`
 abbrev pub is_too_wide : FieldName → List ℕ → Bool
 is_too_wide (Bext field) text = not (fits_width field text)
 is_too_wide _ text = false
@@ -115,6 +121,7 @@ too_long name text =
     || ((is_info name || is_history_name name) && nat_lt 1048576 (length text))
     || (is_whole name && not (is_checksum name) && nat_lt 16777216 (length text))
 
+-- the rules 2 to 13, in order
 abbrev pub text_rules : List TextRule
 text_rules = sets_version ∷ has_nul ∷ has_other_letter ∷ too_wide ∷ no_date ∷ no_time ∷ no_count ∷ no_loudness_text ∷ no_umid ∷ no_checksum ∷ no_utf8 ∷ too_long ∷ []
 

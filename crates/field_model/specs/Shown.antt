@@ -20,6 +20,7 @@ before_zero raw = take_while (λ x. not (x == 0)) raw
 abbrev pub unless_empty : List ℕ → Option (List ℕ)
 unless_empty text = if length text == 0 then None else Some text
 
+-- whether all bytes are 0
 abbrev pub all_zeros : List ℕ → Bool
 all_zeros raw = list_all (λ x. x == 0) raw
 

@@ -41,6 +41,7 @@ text_of (User id) = Some (64 ∷ drop 1 id.0)
 abbrev pub name_text : FieldName → Option (List ℕ)
 name_text name = if is_field_name name then text_of name else None
 
+-- whether a text is there and is this one
 abbrev pub is_text : List ℕ → Option (List ℕ) → Bool
 is_text text None = false
 is_text text (Some t) = bytes_eq t text
@@ -49,6 +50,7 @@ is_text text (Some t) = bytes_eq t text
 abbrev pub user_type : List ℕ → List ℕ
 user_type text = 169 ∷ drop 1 text
 
+-- the user field of a text, if it is one
 abbrev pub user_name : List ℕ → Option FieldName
 user_name text = if bytes_eq (take 1 text) (codes "@") && is_user_type (user_type text) then Some (User (four (user_type text))) else None
 
@@ -57,5 +59,6 @@ abbrev pub or_user : List ℕ → Option FieldName → Option FieldName
 or_user text None = user_name text
 or_user text (Some name) = Some name
 
+-- the field that a text names
 abbrev pub field_name : List ℕ → Option FieldName
 field_name text = or_user text (find (λ name. is_text text (name_text name)) field_names)

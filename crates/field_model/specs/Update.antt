@@ -28,6 +28,7 @@ only_shown f name [] = None
 only_shown f name (v ∷ []) = shown f name v
 only_shown f name (v ∷ w ∷ vs) = None
 
+-- whether two texts are there and the same
 abbrev pub same_text : Option (List ℕ) → Option (List ℕ) → Bool
 same_text (Some a) (Some b) = bytes_eq a b
 same_text _ _ = false
@@ -51,10 +52,12 @@ abbrev pub removes : FieldMap → FieldName → List Value → Bool
 removes f (Bext field) vs = not (list_all (is_nothing f field) vs)
 removes f _ vs = not (length vs == 0)
 
+-- whether a change of a name has an effect
 abbrev pub changes : FieldMap → FieldName → Change → Bool
 changes f name (Set text) = not (shows_already f name text)
 changes f name Remove = removes f name (f name)
 
+-- whether an item has an effect
 abbrev pub has_effect : FieldMap → EditItem → Bool
 has_effect f item = changes f item.name item.change
 
@@ -74,6 +77,7 @@ abbrev pub language : FieldName → ℕ
 language (User id) = 5575
 language _ = 0
 
+-- a name whose only value becomes these bytes
 abbrev pub written : FieldName → List ℕ → RawItem
 written name raw = record { name = name; value = Some (record { lang = language name; raw = raw }) }
 
@@ -87,6 +91,7 @@ abbrev pub raw_change : FieldName → Change → Option RawItem
 raw_change name (Set text) = option_map (written name) (raw_of name text)
 raw_change name Remove = Some (removed name)
 
+-- an item in raw bytes
 abbrev pub raw_item : EditItem → Option RawItem
 raw_item item = raw_change item.name item.change
 
@@ -96,6 +101,7 @@ raw_items f e = filter_map raw_item (effective f e)
 
 -- ---- the fields after an edit
 
+-- a value, if there is one, as a list
 abbrev pub listed : Option Value → List Value
 listed None = []
 listed (Some v) = v ∷ []
@@ -105,10 +111,12 @@ abbrev pub updated_values : List RawItem → FieldName → List Value → List V
 updated_values [] name vs = vs
 updated_values (i ∷ e) name vs = updated_values e name (if same_name i.name name then listed i.value else vs)
 
+-- whether a name is of `bext`
 abbrev pub is_bext : FieldName → Bool
 is_bext (Bext field) = true
 is_bext _ = false
 
+-- the version that a name came with
 abbrev pub since_name : FieldName → ℕ
 since_name (Bext field) = since field
 since_name _ = 0
@@ -129,6 +137,7 @@ raised_form Umid to old vs = if old == 0 then plain (replicate 64 0) ∷ [] else
 raised_form Loudness to old vs = if to == 2 then plain no_loudness ∷ [] else vs
 raised_form _ to old vs = vs
 
+-- the values of a field after a raise to a version
 abbrev pub raised_values : ℕ → ℕ → BextField → List Value → List Value
 raised_values to old field vs = if nat_le to old then vs else raised_form (form_of field) to old vs
 

@@ -44,6 +44,7 @@ Fits p o (Makes c) m = FitsCall p o c m
 Fits p o (Reads at n) m = (m.slots.main ≡ Some o) × (at + n ≤ length o)
 Fits p o (Appends n) m = (n ≡ length m.held) × FitsCall p o (AppendWork m.held) m
 
+-- what all steps need, one after another
 abbrev pub AllFit : Plan → List ℕ → List Step → Moment → Type 0
 AllFit p o [] m = ⊤
 AllFit p o (s ∷ ss) m = Fits p o s m × AllFit p o ss (after s m)

@@ -10,6 +10,7 @@ use Rattle.file_swap.specs.declared.machine.Machine.{Machine}
 use Rattle.file_swap.specs.declared.machine.Machine.TheVariants.{InPlace, Rewrite}
 use Rattle.file_swap.specs.declared.machine.Core.{Core}
 
+-- the plan of a machine
 abbrev pub plan_of : Machine → Plan
 plan_of (InPlace p) = Stages.plan_of p.work
 plan_of (Rewrite r) = Parts.plan_of r.parts
@@ -29,6 +30,7 @@ abbrev pub held_of : Machine → List ℕ
 held_of (InPlace p) = []
 held_of (Rewrite r) = Parts.held_of r
 
+-- what holds of a machine at each moment
 abbrev pub IsMachine : Machine → Type 0
 IsMachine (InPlace p) = Stages.IsPatching p
 IsMachine (Rewrite r) = Parts.IsRewriting r
@@ -41,9 +43,11 @@ made_by p rest = calls p - length rest
 pub record IsRest (p : Plan) (rest : List Step) : Type 0 where
   pub is : drop (made_by p rest) (steps p) ≡ rest
 
+-- what holds of a swap at each moment
 pub record IsSound (c : Core) : Type 0 where
   pub machine : IsMachine c.machine
   pub rest : IsRest (plan_of c.machine) (left c.machine)
 
+-- a swap as its callers see it
 abbrev pub swap_of : Core → Swapping
 swap_of c = record { plan = plan_of c.machine; made = made_by (plan_of c.machine) (left c.machine); held = held_of c.machine; failed = c.failed }

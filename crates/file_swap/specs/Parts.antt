@@ -17,9 +17,11 @@ use Rattle.file_swap.specs.declared.rewrite.Stage.TheVariants.{Start, Read, Appe
 use Rattle.file_swap.specs.declared.rewrite.Parts.{Parts}
 use Rattle.file_swap.specs.declared.rewrite.Rewriting.{Rewriting}
 
+-- the plan of these parts
 abbrev pub plan_of : Parts → Plan
 plan_of s = Rewrite s.new_len s.segments
 
+-- the k-th segment
 abbrev pub segment_at : List Segment → ℕ → Segment
 segment_at ss i = get_or ss i (Literal [])
 
@@ -33,9 +35,11 @@ abbrev pub literal_of : Segment → List ℕ
 literal_of (Copy s) = []
 literal_of (Literal b) = b
 
+-- the range of the k-th segment
 abbrev pub span_at : Parts → ℕ → Span
 span_at s i = span_of (segment_at s.segments i)
 
+-- the bytes of the k-th segment
 abbrev pub literal_at : Parts → ℕ → List ℕ
 literal_at s i = literal_of (segment_at s.segments i)
 
@@ -99,9 +103,11 @@ HasRead (Makes c) buffer old = ⊤
 HasRead (Reads at n) buffer old = IsTrue old.tells → take n buffer ≡ take n (drop at (bytes_of old.slots.main))
 HasRead (Appends n) buffer old = ⊤
 
+-- what a rewrite holds of the file
 abbrev pub held_of : Rewriting → List ℕ
 held_of r = held_in r.parts r.stage r.buffer.items
 
+-- what holds of a rewrite at each moment
 pub record IsRewriting (r : Rewriting) : Type 0 where
   pub sum : AddsUp r.parts.new_len r.parts.segments
   pub stage : IsStage r.parts r.stage

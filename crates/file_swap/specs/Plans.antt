@@ -6,10 +6,12 @@ use Rattle.part_tree.specs.declared.plan.Plan.{Plan}
 use Rattle.part_tree.specs.declared.plan.Plan.TheVariants.{InPlace, Rewrite}
 use Rattle.edit_journal.specs.Journal.{Rules}
 
+-- how many bytes a segment makes
 abbrev pub segment_len : Segment → ℕ
 segment_len (Copy s) = s.len
 segment_len (Literal b) = length b
 
+-- how many bytes some segments make together
 abbrev pub total_len : List Segment → ℕ
 total_len [] = 0
 total_len (s ∷ ss) = segment_len s + total_len ss
@@ -29,6 +31,7 @@ abbrev pub Inside : List ℕ → Segment → Type 0
 Inside o (Copy s) = s.at + s.len ≤ length o
 Inside o (Literal b) = ⊤
 
+-- the same of each segment
 abbrev pub AllInside : List ℕ → List Segment → Type 0
 AllInside o [] = ⊤
 AllInside o (s ∷ ss) = Inside o s × AllInside o ss

@@ -59,21 +59,26 @@ writes p from = map (λ r. Makes (WriteMain (p.at + r.at) (part p.bytes r))) (ra
 abbrev pub copies : ℕ → ℕ → List Step
 copies at len = flat_map (λ r. Reads r.at r.len ∷ Appends r.len ∷ []) (ranges at len)
 
+-- the steps of a segment
 abbrev pub segment_steps : Segment → List Step
 segment_steps (Copy s) = copies s.at s.len
 segment_steps (Literal b) = appends b 0
 
 -- ---- the lists
 
+-- the steps behind the last change of the file
 abbrev pub after_writes : List Step
 after_writes = Makes SyncMain ∷ Makes DropJournal ∷ []
 
+-- the steps behind the patches: the file is cut where it becomes shorter
 abbrev pub cut_steps : ℕ → ℕ → List Step
 cut_steps old new = (if nat_lt new old then Makes (SetMainLen new) ∷ [] else []) ++ after_writes
 
+-- the steps behind the making of the journal
 abbrev pub install_steps : ℕ → ℕ → List Patch → List Step
 install_steps old new ps = Makes SyncWork ∷ Makes InstallJournal ∷ (flat_map (λ p. writes p 0) ps ++ cut_steps old new)
 
+-- the steps behind the making of the new file
 abbrev pub end_steps : List Step
 end_steps = Makes SyncWork ∷ Makes InstallMain ∷ []
 
@@ -98,11 +103,13 @@ step_at p k = get_or (steps p) k (Makes DropJournal)
 
 -- ---- the bytes that they write
 
+-- how many bytes a step writes
 abbrev pub step_bytes : Step → ℕ
 step_bytes (Makes c) = piece c
 step_bytes (Reads at n) = 0
 step_bytes (Appends n) = n
 
+-- how many bytes some steps write together
 abbrev pub bytes_in : List Step → ℕ
 bytes_in [] = 0
 bytes_in (s ∷ ss) = step_bytes s + bytes_in ss
@@ -118,6 +125,7 @@ bytes_written (Rewrite new segments) = new
 
 -- ---- the new file
 
+-- what a segment makes of a file
 abbrev pub segment_bytes : List ℕ → Segment → List ℕ
 segment_bytes o (Copy s) = take s.len (drop s.at o)
 segment_bytes o (Literal b) = b

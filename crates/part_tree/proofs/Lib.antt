@@ -1,4 +1,5 @@
 pub mod Entries
 pub mod Moved
 pub mod Places
+pub mod Rules
 pub mod Words

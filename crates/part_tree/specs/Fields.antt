@@ -19,6 +19,7 @@ abbrev pub Ascends : ℕ → List Entry → Type 0
 Ascends low [] = Unit {0}
 Ascends low (e ∷ es) = (low ≤ field_place e.name) × IsFieldName e.name × (0 < length e.values) × Ascends (suc (field_place e.name)) es
 
+-- entries of fields in field order, each with a value
 abbrev pub IsMap : List Entry → Type 0
 IsMap es = Ascends 0 es
 

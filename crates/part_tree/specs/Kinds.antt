@@ -13,6 +13,7 @@ is_form_of id word first = bytes_eq (take 4 first) id && bytes_eq (take 4 (drop 
 abbrev pub movie_types : List (List ℕ)
 movie_types = codes "ftyp" ∷ codes "moov" ∷ codes "mdat" ∷ codes "free" ∷ codes "skip" ∷ codes "wide" ∷ codes "pnot" ∷ []
 
+-- whether the bytes begin a QuickTime movie
 abbrev pub is_movie : List ℕ → Bool
 is_movie first = list_any (bytes_eq (take 4 (drop 4 first))) movie_types
 

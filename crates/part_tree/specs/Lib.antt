@@ -3,3 +3,4 @@ pub mod Kinds
 pub mod Letters
 pub mod Moves
 pub mod Names
+pub mod Shows

@@ -2,6 +2,7 @@
 use Rattle.std.specs.Prelude.{◌<◌, ◌≤◌, ℕ, ◌+◌, ◌-◌, ◌^◌, List, [], ◌∷◌, Bool, nat_le, nat_lt, ◌&&◌, if◌then◌else◌, Option, Some, None}
 use Rattle.part_tree.specs.declared.names.Span.{Span}
 
+-- a range, and where it begins in the new file
 abbrev pub Move : Type 0
 Move = Span × ℕ
 

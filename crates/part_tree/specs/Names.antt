@@ -1,5 +1,5 @@
 -- The names of fields, and their order: `bext` by EBU Tech 3285, INFO by RIFF, then whole chunks and user data.
-use Rattle.std.specs.Prelude.{ℕ, ◌+◌, List, [], ◌∷◌, ◌++◌, map, length, take, drop, Bool, true, false, ◌&&◌, ◌==◌, codes, IsTrue}
+use Rattle.std.specs.Prelude.{ℕ, zero, suc, get_or, ◌+◌, List, [], ◌∷◌, ◌++◌, map, length, take, drop, Bool, true, false, ◌&&◌, ◌==◌, codes, IsTrue}
 use Rattle.std.specs.Str.{bytes_eq}
 use Rattle.std.specs.List.{list_any, list_all, position_or_len}
 use Rattle.std.specs.Char.{is_ascii_alphanumeric}
@@ -73,3 +73,39 @@ same_name (Info a) (Info b) = bytes_eq a.0 b.0
 same_name (Whole a) (Whole b) = bytes_eq a.0 b.0
 same_name (User a) (User b) = bytes_eq a.0 b.0
 same_name _ _ = false
+
+-- ---- the names of rules
+
+-- the 24 rules in order (this project's own)
+abbrev pub rule_names : List (List ℕ)
+rule_names =
+    codes "BASE-KIND"
+    ∷ codes "BASE-VERSION"
+    ∷ codes "BASE-NUL"
+    ∷ codes "BASE-ASCII"
+    ∷ codes "BASE-WIDTH"
+    ∷ codes "BASE-DATE"
+    ∷ codes "BASE-TIME"
+    ∷ codes "BASE-TIMEREF"
+    ∷ codes "BASE-LOUDNESS"
+    ∷ codes "BASE-UMID"
+    ∷ codes "BASE-MD5"
+    ∷ codes "BASE-UTF8"
+    ∷ codes "BASE-LONG"
+    ∷ codes "EBU-HISTORY"
+    ∷ codes "EBU-DATE"
+    ∷ codes "EBU-TIME"
+    ∷ codes "EBU-RANGE"
+    ∷ codes "EBU-TEXT"
+    ∷ codes "INFO-ONCE"
+    ∷ codes "INFO-END"
+    ∷ codes "INFO-DATE"
+    ∷ codes "FADGI-DESCRIPTION"
+    ∷ codes "FADGI-ORIGINATOR"
+    ∷ codes "FADGI-DATE"
+    ∷ []
+
+-- the name of a rule by its number, from 1; none has another number
+abbrev pub named_rule : ℕ → List ℕ
+named_rule zero = []
+named_rule (suc k) = get_or rule_names k []

@@ -3,7 +3,7 @@ ghost use Rattle.std.specs.Prelude.{◌≡◌, ◌+◌, ◌<◌, ◌≤◌, ◌^
 ghost use Rattle.std.specs.List.{position_or_len};
 ghost use Rattle.std.specs.Str.{bytes_eq};
 ghost use Rattle.me_bytes.specs.Bytes.{be};
-ghost use Rattle.part_tree.specs.Names.{bext_row, field_place, is_field_name, is_user_type, same_name};
+ghost use Rattle.part_tree.specs.Names.{bext_row, field_place, is_field_name, is_user_type, named_rule, same_name};
 
 use crate::bytes::Bytes;
 use crate::names::FourCc;
@@ -238,4 +238,41 @@ pub fn is_user(id: &FourCc) -> bool
         && id.0[1].is_ascii_alphanumeric()
         && id.0[2].is_ascii_alphanumeric()
         && id.0[3].is_ascii_alphanumeric()
+}
+
+/// The name of a rule by its number, from 1; empty where no rule has the number.
+pub fn rule_name(rule: u8) -> &'static str
+    ensures { result.now ≡ named_rule rule }
+{
+    match rule {
+        1 => "BASE-KIND",
+        2 => "BASE-VERSION",
+        3 => "BASE-NUL",
+        4 => "BASE-ASCII",
+        5 => "BASE-WIDTH",
+        6 => "BASE-DATE",
+        7 => "BASE-TIME",
+        8 => "BASE-TIMEREF",
+        9 => "BASE-LOUDNESS",
+        10 => "BASE-UMID",
+        11 => "BASE-MD5",
+        12 => "BASE-UTF8",
+        13 => "BASE-LONG",
+        14 => "EBU-HISTORY",
+        15 => "EBU-DATE",
+        16 => "EBU-TIME",
+        17 => "EBU-RANGE",
+        18 => "EBU-TEXT",
+        19 => "INFO-ONCE",
+        20 => "INFO-END",
+        21 => "INFO-DATE",
+        22 => "FADGI-DESCRIPTION",
+        23 => "FADGI-ORIGINATOR",
+        24 => "FADGI-DATE",
+        _ => {
+            let outside = rule == 0 || rule > 24;
+            prove!(outside);
+            ""
+        }
+    }
 }

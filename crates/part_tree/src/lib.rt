@@ -10,6 +10,7 @@ mod moves;
 mod names;
 mod part;
 mod plan;
+mod shows;
 #[cfg(test)]
 mod tests;
 mod why;
@@ -17,7 +18,7 @@ mod why;
 pub use bytes::Bytes;
 pub use field::{
     BextField, Broken, Change, EditItem, FieldName, Form, INFO_IDS, RuleSet, Value, WHOLE_IDS,
-    is_user,
+    is_user, rule_name,
 };
 pub use fields::{Entry, Fields, Values};
 pub use kind::kind_of;
@@ -26,4 +27,5 @@ pub use moves::Moves;
 pub use names::{FourCc, Kind, Span};
 pub use part::{Part, Role};
 pub use plan::{Patch, Patches, Plan, Segment, Segments};
+pub use shows::{Shows, Track};
 pub use why::{ReadFault, Why};

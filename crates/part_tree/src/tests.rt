@@ -1,5 +1,7 @@
 // Worked rows.
-use crate::{BextField, Bytes, FieldName, Fields, FourCc, Kind, Moves, Span, Value, kind_of};
+use crate::{
+    BextField, Bytes, FieldName, Fields, FourCc, Kind, Moves, Span, Value, kind_of, rule_name,
+};
 use std::test::Fail;
 
 #[test]
@@ -79,4 +81,18 @@ fn names_stand_in_order(rt: HostRuntime) -> Result<(), Fail> {
     assert_eq!(rt; copy.get(&date).len(), 0);
     assert_eq!(rt; fields.get(&title).len(), 2);
     Ok(())
+}
+
+#[test]
+fn rules_have_names(rt: HostRuntime) {
+    let rows: [(u8, &str); 5] = [
+        (0, ""),
+        (1, "BASE-KIND"),
+        (5, "BASE-WIDTH"),
+        (24, "FADGI-DATE"),
+        (25, ""),
+    ];
+    for (rule, name) in rows.iter() {
+        assert!(rt; rule_name(*rule) == *name);
+    }
 }

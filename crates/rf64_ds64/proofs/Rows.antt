@@ -8,7 +8,7 @@ use Rattle.std.proofs.lemmas.Bool.{le-ltb}
 use Rattle.std.proofs.lemmas.List.{drop-drop, take_at, drop_at, at_drop_more, at_drop_all, append-nil, take_all}
 use Rattle.std.proofs.lemmas.Nat.{from_le_bytes-to_le_bytes_4, from_le_bytes-to_le_bytes_8}
 use Rattle.container_model.specs.Sizes.{Row}
-use Rattle.wave_model.specs.Wave.{le32, le64, rows}
+use Rattle.container_model.specs.Ds64.{le32, le64, rows}
 use Rattle.rf64_ds64.specs.declared.Ds64.{Ds64}
 use Rattle.rf64_ds64.specs.declared.Ds64Row.{Ds64Row}
 use Rattle.rf64_ds64.specs.Ds64.{row_of, row_bytes, body_of, needed, is_short, nth_size, IsDs64, IsSpellable}

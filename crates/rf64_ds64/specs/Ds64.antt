@@ -6,7 +6,7 @@ use Rattle.std.specs.List.{AllByRecursion}
 use Rattle.std.specs.declared.result.Result.TheVariants.{Ok, Err}
 use Rattle.container_model.specs.Sizes.{Row}
 use Rattle.part_tree.specs.declared.names.FourCc.{FourCc}
-use Rattle.wave_model.specs.Wave.{le32, le64, rows}
+use Rattle.container_model.specs.Ds64.{le32, le64, rows}
 use Rattle.rf64_ds64.specs.declared.Ds64.{Ds64}
 use Rattle.rf64_ds64.specs.declared.Ds64Row.{Ds64Row}
 use Rattle.rf64_ds64.specs.declared.Ds64Fault.{Ds64Fault}
@@ -31,7 +31,7 @@ pub record IsDs64 (body : List ℕ) (ds : Ds64) : Type 0 where
   pub riff : ds.riff ≡ le64 body
   pub data_size : ds.data_size ≡ le64 (drop 8 body)
   pub samples : ds.samples ≡ le64 (drop 16 body)
-  pub rows : map row_of ds.rows ≡ Rattle.wave_model.specs.Wave.rows (le32 (drop 24 body)) (drop 28 body)
+  pub rows : map row_of ds.rows ≡ Rattle.container_model.specs.Ds64.rows (le32 (drop 24 body)) (drop 28 body)
   pub extra : ds.extra ≡ drop (needed body) body
 
 abbrev pub ReadsDs64 : List ℕ → Result Ds64 Ds64Fault → Type 0

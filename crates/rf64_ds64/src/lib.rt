@@ -4,7 +4,7 @@
 
 ghost use Rattle.std.specs.Prelude.{◌≡◌, ℕ, List, ◌+◌, ◌*◌, ◌^◌, ◌<◌, ◌≤◌, ◌++◌, length, map, take, drop, true, false, IfOk, OnOk, Option};
 ghost use Rattle.container_model.specs.Sizes.{Row};
-ghost use Rattle.wave_model.specs.Wave.{le32, le64, rows};
+ghost use Rattle.container_model.specs.Ds64.{le32, le64, rows};
 ghost use Rattle.rf64_ds64.specs.declared.Ds64.{Ds64};
 ghost use Rattle.rf64_ds64.specs.Ds64.{GivesSize, IsDs64, IsSpellable, ReadsDs64, body_of, is_short, nth_size, row_bytes, row_of};
 

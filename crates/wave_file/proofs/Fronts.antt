@@ -22,7 +22,8 @@ use Rattle.container_model.specs.Written.{slice}
 use Rattle.container_model.proofs.Windows.{length_slice}
 use Rattle.rf64_ds64.specs.declared.Ds64.{Ds64}
 use Rattle.rf64_ds64.specs.Ds64.{IsDs64, is_short, needed}
-use Rattle.wave_model.specs.Wave.{le32, le64, is_big, form_size, form_body, form_run, rows, table_of, sizes_of, kind_of}
+use Rattle.container_model.specs.Ds64.{le32, le64, rows, table_of}
+use Rattle.wave_model.specs.Wave.{is_big, form_size, form_body, form_run, sizes_of, kind_of}
 use Rattle.wave_model.specs.Edited.{is_kind}
 use Rattle.wave_model.specs.Why.{first, or_else, kind_tests, ds64_tests, ds64_why, form_tests, chunks_why, why}
 use Rattle.wave_model.proofs.Ds64.{table_same}

@@ -102,11 +102,11 @@ range_fills field body long = go (cases_lt (bext_row field) 14)
     go (inr le) = inl (omega (arith, row_small field))
 
 pub has_bext : (old new : List Entry) (body : List ℕ) → 602 ≤ length body → Grows old new (ranges_below 15 body) → HasNoBext old → HasBext new
-has_bext old new body long grown none field = record {
-  value = plain (range_of (bext_row field) body);
-  only = grown (Bext field) ∙ ap (λ (vs : List Value). vs ++ ranges_below 15 body (Bext field)) (none field) ∙ all_below field body;
-  fills = range_fills field body long;
-}
+has_bext old new body long grown none field = (
+  plain (range_of (bext_row field) body),
+  grown (Bext field) ∙ ap (λ (vs : List Value). vs ++ ranges_below 15 body (Bext field)) (none field) ∙ all_below field body,
+  range_fills field body long,
+)
 
 -- ---- items
 

@@ -30,7 +30,8 @@ use Rattle.wave_file.specs.declared.form.AllRead.{AllRead}
 use Rattle.wave_file.specs.Map.{part_at, sound_at}
 use Rattle.wave_file.specs.Reads.{IsLeft, Took, Takes, seen_of}
 use Rattle.wave_file.specs.declared.sizing.Sizing.{Sizing}
-use Rattle.wave_file.specs.Lawful.{HasRanges, IsLawful}
+use Rattle.field_model.specs.Lawful.{IsLawful}
+use Rattle.wave_file.specs.Lawful.{HasRanges}
 use Rattle.wave_file.specs.Sized.{IsStuck, StuckAt, run_at, state_of}
 use Rattle.wave_file.specs.Form.{IsRead, ReadsChunks}
 
@@ -131,6 +132,6 @@ chunks_stuck b at end z r (Fault.Why w) left stuck = left_stuck b (run_at (state
 chunks_stuck b at end z r Fault.Depot left stuck = tt
 chunks_stuck b at end z r Fault.Memory left stuck = tt
 
-pub lawful : (has : Bool) (es : List Entry) → HasRanges has es → IsLawful es
-lawful true es h = inr h
-lawful false es h = inl h
+pub lawful : (has : Bool) (es : List Entry) → HasRanges has es → IsLawful (values es)
+lawful true es h = inl h
+lawful false es h = inr h

@@ -110,7 +110,7 @@ ascend_to low mid end [] le h = omega arith
 ascend_to low mid end (q ∷ ps) le h = (h.0, h.1, h.2, ascend_to q.next mid end ps le h.3)
 
 same_ranges : (has : Bool) (old new : List Entry) → HasRanges has old → ((field : BextField) → values new (name.Bext field) ≡ values old (name.Bext field)) → HasRanges has new
-same_ranges true old new h e = λ f. record { value = (h f).value; only = e f ∙ (h f).only; fills = (h f).fills }
+same_ranges true old new h e = λ f. ((h f).0, e f ∙ (h f).1, (h f).2)
 same_ranges false old new h e = λ f. e f ∙ h f
 
 or_no : (t : Bool) → (t || false) ≡ t

@@ -8,11 +8,12 @@ use Rattle.part_tree.specs.Fields.{values}
 use Rattle.part_tree.specs.declared.why.ReadFault.{ReadFault}
 use Rattle.part_tree.specs.declared.why.ReadFault.TheVariants.{Why, Depot, Memory}
 use Rattle.rf64_ds64.specs.declared.Ds64.{Ds64}
-use Rattle.wave_model.specs.Wave.{le32, is_big, form_size, sizes_of, wave_of}
+use Rattle.container_model.specs.Ds64.{le32}
+use Rattle.wave_model.specs.Wave.{is_big, form_size, sizes_of, wave_of}
 use Rattle.wave_model.specs.Fields.{fields}
 use Rattle.wave_model.specs.Edited.{block_size, formats}
 use Rattle.wave_model.specs.Why.{first, kind_tests, ds64_tests, ds64_why, chunks_why}
-use Rattle.wave_file.specs.Lawful.{IsLawful}
+use Rattle.field_model.specs.Lawful.{IsLawful}
 use Rattle.wave_file.specs.Map.{Ascend, HasSizes, all_parts, all_sounds}
 use Rattle.wave_file.specs.declared.form.AllRead.{AllRead}
 use Rattle.wave_file.specs.Sized.{sizes_in}
@@ -86,4 +87,4 @@ ReadsChunks b (Err Memory) = Unit {0}
 pub record IsSoundPart (r : AllRead) (end : ℕ) : Type 0 where
   pub ascends : Ascend 12 r.parts.items end
   pub sound : r.sound.at + r.sound.len ≤ end
-  pub lawful : IsLawful r.fields
+  pub lawful : IsLawful (values r.fields)

@@ -1,28 +1,20 @@
--- Fields that a file can have: those of `bext` are all there or all absent, each has one value, and each value but the
--- coding history has the length of its range (EBU Tech 3285, section 2.3).
-use Rattle.std.specs.Prelude.{◌≡◌, List, [], ◌∷◌, Bool, true, false, ◌⊎◌}
+-- The fields of `bext` in a map that is being read: none yet, or all of them (EBU Tech 3285, section 2.3).
+use Rattle.std.specs.Prelude.{◌≡◌, List, [], Bool, true, false}
 use Rattle.part_tree.specs.declared.field.BextField.{BextField}
 use Rattle.part_tree.specs.declared.field.FieldName.TheVariants.{Bext}
-use Rattle.part_tree.specs.declared.field.Value.{Value}
 use Rattle.part_tree.specs.declared.fields.Entry.{Entry}
 use Rattle.part_tree.specs.Fields.{values}
-use Rattle.field_model.specs.Body.{FillsRange}
+use Rattle.field_model.specs.Lawful.{HasOne}
 
+-- no field of `bext` has a value
 abbrev pub HasNoBext : List Entry → Type 0
 HasNoBext es = (field : BextField) → values es (Bext field) ≡ []
 
--- one value that fills the field's range
-pub record HasRange (es : List Entry) (field : BextField) : Type 0 where
-  pub value : Value
-  pub only : values es (Bext field) ≡ value ∷ []
-  pub fills : FillsRange field value.raw
-
+-- each field of `bext` has one value, which fills its range
 abbrev pub HasBext : List Entry → Type 0
-HasBext es = (field : BextField) → HasRange es field
+HasBext es = (field : BextField) → HasOne (values es) field
 
+-- the one or the other, by whether a chunk `bext` was read
 abbrev pub HasRanges : Bool → List Entry → Type 0
 HasRanges true es = HasBext es
 HasRanges false es = HasNoBext es
-
-abbrev pub IsLawful : List Entry → Type 0
-IsLawful es = HasNoBext es ⊎ HasBext es

@@ -16,14 +16,15 @@ use Rattle.part_tree.specs.declared.part.Role.TheVariants as role
 use Rattle.part_tree.specs.declared.field.FieldName.{FieldName}
 use Rattle.part_tree.specs.declared.why.ReadFault.{ReadFault}
 use Rattle.part_tree.specs.declared.why.ReadFault.TheVariants.{Why, Depot, Memory}
-use Rattle.wave_model.specs.Wave.{le32, is_big, Wave, wave_of, form_size, kind_of}
+use Rattle.container_model.specs.Ds64.{le32}
+use Rattle.wave_model.specs.Wave.{is_big, Wave, wave_of, form_size, kind_of}
 use Rattle.wave_model.specs.Fields.{is_bext, is_info, fields}
 use Rattle.wave_model.specs.Edited.{block_size, formats}
 use Rattle.wave_model.specs.New.{children_at}
 use Rattle.wave_model.specs.Why.{is_data, why}
 use Rattle.rf64_ds64.specs.declared.Ds64.{Ds64}
 use Rattle.rf64_ds64.specs.Ds64.{IsDs64}
-use Rattle.wave_file.specs.Lawful.{IsLawful}
+use Rattle.field_model.specs.Lawful.{IsLawful}
 use Rattle.wave_file.specs.declared.map.WaveMap.{WaveMap}
 
 -- ---- parts
@@ -113,4 +114,4 @@ pub record IsSound (m : WaveMap) : Type 0 where
   pub form_inside : m.form_end ≤ m.len
   pub parts_ascend : Ascend 12 m.parts.items m.form_end
   pub sound_inside : m.sound.at + m.sound.len ≤ m.form_end
-  pub lawful : IsLawful m.fields
+  pub lawful : IsLawful (values m.fields)

@@ -15,7 +15,7 @@ const F72: [u8; 72] = [
 ];
 
 // An RF64 file whose sizes of the form and of `data` stand in `ds64`.
-const R84: [u8; 84] = [
+const RF64_84: [u8; 84] = [
     0x52, 0x46, 0x36, 0x34, 0xFF, 0xFF, 0xFF, 0xFF, 0x57, 0x41, 0x56, 0x45, 0x64, 0x73, 0x36, 0x34,
     0x1C, 0x00, 0x00, 0x00, 0x4C, 0x00, 0x00, 0x00, 0x00, 0x00, 0x00, 0x00, 0x04, 0x00, 0x00, 0x00,
     0x00, 0x00, 0x00, 0x00, 0x02, 0x00, 0x00, 0x00, 0x00, 0x00, 0x00, 0x00, 0x00, 0x00, 0x00, 0x00,
@@ -75,8 +75,13 @@ fn refuses_by_the_first_reason(rt: HostRuntime) -> Result<(), Fail> {
         (&F72, 36, b"daty", Why::NoData),
         (&F72, 48, b"data", Why::TwoData),
         (&F72, 48, b"bext", Why::ShortBext { len: 16 }),
-        (&R84, 12, b"JUNK", Why::NoDs64),
-        (&R84, 44, b"\xff\xff\xff\xff", Why::ShortDs64 { len: 28 }),
+        (&RF64_84, 12, b"JUNK", Why::NoDs64),
+        (
+            &RF64_84,
+            44,
+            b"\xff\xff\xff\xff",
+            Why::ShortDs64 { len: 28 },
+        ),
     ];
     for (file, at, bytes, why) in rows.iter() {
         let fault = match read(alloc, changed(alloc, file, *at, 4, *bytes)?)? {
@@ -85,7 +90,7 @@ fn refuses_by_the_first_reason(rt: HostRuntime) -> Result<(), Fail> {
         };
         assert_eq!(rt; fault, Some(ReadFault::Why(*why)));
     }
-    let longer = changed(alloc, &R84, 20, 1, b"\x54")?;
+    let longer = changed(alloc, &RF64_84, 20, 1, b"\x54")?;
     let file = changed(alloc, &longer, 48, 0, b"abcd\xff\xff\xff\xff")?;
     let fault = match read(alloc, file)? {
         Ok(_) => None,
@@ -114,7 +119,7 @@ fn maps_a_title(rt: HostRuntime) -> Result<(), Fail> {
 #[test]
 fn maps_sizes_of_64_bits(rt: HostRuntime) -> Result<(), Fail> {
     let alloc = rt.alloc();
-    let map = read(alloc, changed(alloc, &R84, 0, 0, b"")?)??;
+    let map = read(alloc, changed(alloc, &RF64_84, 0, 0, b"")?)??;
     assert_eq!(rt; map.kind, Kind::Rf64);
     assert_eq!(rt; (map.len, map.form_end), (84, 84));
     assert_eq!(rt; (map.sound.at, map.sound.len, map.align), (80, 4, 2));

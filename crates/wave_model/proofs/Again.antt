@@ -9,7 +9,8 @@ use Rattle.container_model.specs.Chunk.{Form, riff, wide, Chunk, pad_len, spell,
 use Rattle.container_model.specs.Sizes.{Sizes, riff_front}
 use Rattle.container_model.proofs.Codec.{chunks_spelled}
 use Rattle.container_model.proofs.Units.{spell_all-append}
-use Rattle.wave_model.specs.Wave.{le32, le64, is_big, is_wide, form_kind, form_size, form_body, behind_form, sizes_of, form_run, firsts, others, Wave, wave_of, inner, spell_wave}
+use Rattle.container_model.specs.Ds64.{le32, le64}
+use Rattle.wave_model.specs.Wave.{is_big, is_wide, form_kind, form_size, form_body, behind_form, sizes_of, form_run, firsts, others, Wave, wave_of, inner, spell_wave}
 
 -- the field of a form's header
 abbrev pub field_of : Form → ℕ → List ℕ

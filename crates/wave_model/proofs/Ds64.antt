@@ -6,7 +6,8 @@ use Rattle.std.proofs.lemmas.Nat.{from_le_bytes-to_le_bytes_4}
 use Rattle.std.proofs.lemmas.List.{take_at, drop_at, length-drop, drop-drop, append-nil}
 use Rattle.container_model.specs.Chunk.{Form, riff, wide, Chunk, spell_all, header_bytes}
 use Rattle.container_model.specs.Sizes.{Row, table}
-use Rattle.wave_model.specs.Wave.{le32, le64, rows, table_of, Wave, inner}
+use Rattle.container_model.specs.Ds64.{le32, le64, rows, table_of}
+use Rattle.wave_model.specs.Wave.{Wave, inner}
 use Rattle.wave_model.proofs.Bext.{within}
 
 -- ---- bytes in front of others

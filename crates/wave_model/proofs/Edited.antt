@@ -27,7 +27,8 @@ use Rattle.carrier_model.specs.Info.{own_size, is_padding, made as made_chunk, o
 use Rattle.carrier_model.specs.Lists.{list_values, values_held, Node}
 use Rattle.carrier_model.proofs.Cells.{cells_from}
 use Rattle.carrier_model.proofs.Info.{fill_all, padding_no_list}
-use Rattle.wave_model.specs.Wave.{le32, le64, is_big, is_wide, form_kind, form_size, sizes_of, table_of, form_run, firsts, others, Wave, wave_of, inner, spell_wave, cells_of, cells_behind}
+use Rattle.container_model.specs.Ds64.{le32, le64, table_of}
+use Rattle.wave_model.specs.Wave.{is_big, is_wide, form_kind, form_size, sizes_of, form_run, firsts, others, Wave, wave_of, inner, spell_wave, cells_of, cells_behind}
 use Rattle.wave_model.specs.Fields.{has_id, is_bext, is_whole, is_info, is_marked, body_in, bodies, fields_of, fields, plain_nodes, nodes_of, nodes}
 use Rattle.wave_model.specs.Carry.{edits_bext, steps, carried, stepped, placed}
 use Rattle.wave_model.specs.New.{ends_file, fill_of, new_children, new_size, with_riff_size, sized_ds64, new_wave}

@@ -12,7 +12,8 @@ use Rattle.container_model.proofs.Codec.{IsBytes, IsBytes-drop, chunks_pads, chu
 use Rattle.container_model.proofs.Fronts.{IsBytes-take, riff_gives_back, eight}
 use Rattle.container_model.proofs.Units.{spell_all-append}
 use Rattle.carrier_model.specs.Info.{own_size}
-use Rattle.wave_model.specs.Wave.{le32, le64, is_big, is_wide, form_kind, form_size, form_body, behind_form, rows, sizes_of, form_run, firsts, others, wave_of, inner, spell_wave}
+use Rattle.container_model.specs.Ds64.{le32, le64, rows}
+use Rattle.wave_model.specs.Wave.{is_big, is_wide, form_kind, form_size, form_body, behind_form, sizes_of, form_run, firsts, others, wave_of, inner, spell_wave}
 use Rattle.wave_model.specs.Edited.{Ds64Fine, Supported, formats}
 use Rattle.wave_model.proofs.Read.{most, OfRiff, IsRead, chunks_fine, read_heads, short_rest}
 use Rattle.wave_model.proofs.Again.{field_of, FormFine, IsForm, is_form, spelled}

@@ -22,7 +22,8 @@ use Rattle.carrier_model.specs.Cells.{Change, leave, changed_cell, change_at, co
 use Rattle.carrier_model.specs.Lists.{edit_nth, all_items, home, has_carrier, lists_act, lists_act_by, Node, list, sign, other, has_list, place_nth, node_items, place_by}
 use Rattle.carrier_model.specs.Info.{info, info_items}
 use Rattle.carrier_model.specs.Large.{first_above}
-use Rattle.wave_model.specs.Wave.{le64, is_big, is_wide, form_kind, form_size, kind_of, Wave, wave_of, inner, spell_wave, cells_of}
+use Rattle.container_model.specs.Ds64.{le64}
+use Rattle.wave_model.specs.Wave.{is_big, is_wide, form_kind, form_size, kind_of, Wave, wave_of, inner, spell_wave, cells_of}
 use Rattle.wave_model.specs.Fields.{fields, fields_of, nodes}
 use Rattle.wave_model.specs.Carry.{steps, carried, placed}
 use Rattle.wave_model.specs.New.{fill_of, new_children, new_size, new_pad, with_riff_size, sized_ds64, new_wave, new_file, new_size_of}
@@ -121,7 +122,7 @@ module _ (o : List ℕ) (bytes : IsBytes o) (sup : Supported o) where
       go : (t : Bool) → is_wide o ≡ t → sized_ds64 (form_kind (is_wide o)) (length (inner (wave_of o))) (wave_of o).ds64 ≡ (wave_of o).ds64
       go true e =
           ap (λ (t : Bool). sized_ds64 (form_kind t) (length (inner (wave_of o))) (wave_of o).ds64) e
-          ∙ with_it (is_big (take 4 o)) (has_ds64 o bytes sup) (cond-true (is_wide o) (le64 (drop 20 o)) (Rattle.wave_model.specs.Wave.le32 (drop 4 o)) e)
+          ∙ with_it (is_big (take 4 o)) (has_ds64 o bytes sup) (cond-true (is_wide o) (le64 (drop 20 o)) (Rattle.container_model.specs.Ds64.le32 (drop 4 o)) e)
       go false e = ap (λ (t : Bool). sized_ds64 (form_kind t) (length (inner (wave_of o))) (wave_of o).ds64) e
 
   pub new_nothing : spell_wave (new_wave (wave_of o) []) ≡ o

@@ -24,7 +24,8 @@ use Rattle.carrier_model.specs.Large.{Size, limited, first_above}
 use Rattle.carrier_model.specs.Cells.{acted}
 use Rattle.carrier_model.proofs.Cells.{Makes, all_acted}
 use Rattle.carrier_model.proofs.Info.{made_padded, fill_all, padding_no_list}
-use Rattle.wave_model.specs.Wave.{is_big, sizes_of, table_of, Wave, wave_of, inner, spell_wave, cells_of}
+use Rattle.container_model.specs.Ds64.{table_of}
+use Rattle.wave_model.specs.Wave.{is_big, sizes_of, Wave, wave_of, inner, spell_wave, cells_of}
 use Rattle.wave_model.specs.Fields.{has_id, is_bext, is_whole, is_info, is_marked, body_in, bodies}
 use Rattle.wave_model.specs.Carry.{info_part, edits_bext, names_whole, or_last, whole_part, bext_act, steps, carried, stepped}
 use Rattle.wave_model.specs.New.{is_nil, ends_file, fill_of, new_children, new_size, new_pad, new_wave}

@@ -9,7 +9,8 @@ use Rattle.field_model.specs.Update.{RawItem, raw_items, effective, update}
 use Rattle.container_model.specs.Chunk.{Form, wide, Chunk, ends}
 use Rattle.carrier_model.specs.Info.{one_of, list_run, is_padding}
 use Rattle.carrier_model.specs.Lists.{Node, other}
-use Rattle.wave_model.specs.Wave.{le32, is_big, Wave, wave_of, form_size, form_run}
+use Rattle.container_model.specs.Ds64.{le32}
+use Rattle.wave_model.specs.Wave.{is_big, Wave, wave_of, form_size, form_run}
 use Rattle.wave_model.specs.Fields.{has_id, is_bext, is_info, is_marked, bodies, fields, nodes}
 use Rattle.wave_model.specs.Carry.{placed}
 

@@ -1,21 +1,13 @@
 -- A WAVE file: its form, the chunk ds64 where it has one, the chunks behind it, and what is behind the form.
 -- (Microsoft and IBM, Multimedia Programming Interface and Data Specifications 1.0; EBU Tech 3306 for RF64.)
-use Rattle.std.specs.Prelude.{ℕ, zero, suc, List, [], ◌∷◌, ◌++◌, take, drop, map, Bool, true, false, ◌&&◌, ◌==◌, codes, if◌then◌else◌}
-use Rattle.std.specs.Int.{w32, w64, from_le_bytes}
+use Rattle.std.specs.Prelude.{ℕ, List, [], ◌∷◌, ◌++◌, take, drop, map, Bool, true, false, ◌&&◌, ◌==◌, codes, if◌then◌else◌}
 use Rattle.part_tree.specs.declared.names.Kind.{Kind}
 use Rattle.part_tree.specs.declared.names.Kind.TheVariants.{Rf64, Wave as WaveKind}
 use Rattle.container_model.specs.Chunk.{Form, riff, wide, Chunk, spell, spell_all, pad_len, Run, chunks}
-use Rattle.container_model.specs.Sizes.{Row, Sizes, plain, table, riff_front}
+use Rattle.container_model.specs.Sizes.{Sizes, plain, riff_front}
+use Rattle.container_model.specs.Ds64.{le32, le64, table_of}
 use Rattle.container_model.specs.Units.{Cell, kept, gap}
 use Rattle.carrier_model.specs.Info.{one_of, is_padding}
-
--- the number that the first four bytes spell, the low byte first
-abbrev pub le32 : List ℕ → ℕ
-le32 b = from_le_bytes w32 (take 4 b)
-
--- the number that the first eight bytes spell
-abbrev pub le64 : List ℕ → ℕ
-le64 b = from_le_bytes w64 (take 8 b)
 
 -- the forms of which a chunk ds64 holds the sizes of 64 bits
 abbrev pub big_forms : List (List ℕ)
@@ -51,18 +43,6 @@ behind_form b = drop (form_size b) (drop 8 b)
 -- the kind of a file of such a form
 abbrev pub kind_of : List ℕ → Kind
 kind_of b = if is_big (take 4 b) then Rf64 else WaveKind
-
--- ---- ds64
-
--- the rows of its table: an identifier and a size of 64 bits each, as many as there are
-abbrev pub rows : ℕ → List ℕ → List Row
-rows zero b = []
-rows (suc n) [] = []
-rows (suc n) (x ∷ b) = record { id = take 4 (x ∷ b); size = le64 (drop 4 (x ∷ b)) } ∷ rows n (drop 12 (x ∷ b))
-
--- riffSize, dataSize, the count of samples, the number of rows, and the rows
-abbrev pub table_of : List ℕ → Sizes
-table_of body = table (le64 (drop 8 body)) (rows (le32 (drop 24 body)) (drop 28 body))
 
 -- where the sizes of a file's chunks stand
 abbrev pub sizes_of : List ℕ → Sizes

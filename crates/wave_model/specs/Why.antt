@@ -6,7 +6,8 @@ use Rattle.part_tree.specs.declared.why.Why.TheVariants.{UnknownKind, Truncated,
 use Rattle.part_tree.specs.Letters.{four}
 use Rattle.container_model.specs.Chunk.{Chunk, spell, spell_all, Stop, ends, bad_header, passes, out_of_turns}
 use Rattle.carrier_model.specs.Info.{list_run}
-use Rattle.wave_model.specs.Wave.{le32, is_big, form_size, form_run, wave_of}
+use Rattle.container_model.specs.Ds64.{le32}
+use Rattle.wave_model.specs.Wave.{is_big, form_size, form_run, wave_of}
 use Rattle.wave_model.specs.Fields.{has_id, is_bext, is_info, body_in}
 use Rattle.wave_model.specs.Edited.{is_carrier, is_kind, block_size, parts_of}
 

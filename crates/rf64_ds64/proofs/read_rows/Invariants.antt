@@ -1,5 +1,5 @@
 use Rattle.std.proofs.Common.{◌≡◌, ◌++◌, ◌-◌, ◌*◌, drop, map}
-use Rattle.wave_model.specs.Wave.{rows}
+use Rattle.container_model.specs.Ds64.{rows}
 use Rattle.rf64_ds64.specs.Ds64.{row_of}
 use Rattle.rf64_ds64.proofs.read_rows.Given as goal
 

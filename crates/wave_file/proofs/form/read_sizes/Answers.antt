@@ -4,7 +4,7 @@ use Rattle.std.specs.Str.{bytes_eq}
 use Rattle.container_model.specs.Written.{slice}
 use Rattle.me_disk.proofs.Holds.{holds_on}
 use Rattle.rf64_ds64.specs.Ds64.{is_short, IsDs64}
-use Rattle.wave_model.specs.Wave.{le32}
+use Rattle.container_model.specs.Ds64.{le32}
 use Rattle.wave_file.proofs.Fronts.{short_body, sizes_read}
 use Rattle.wave_file.proofs.form.read_sizes.Goals as goal
 
