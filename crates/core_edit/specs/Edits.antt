@@ -5,8 +5,9 @@ use Rattle.part_tree.specs.declared.field.Change.{Change}
 use Rattle.part_tree.specs.declared.field.Change.TheVariants.{Set, Remove}
 use Rattle.part_tree.specs.declared.field.EditItem.{EditItem}
 use Rattle.part_tree.specs.declared.field.FieldName.{FieldName}
-use Rattle.part_tree.specs.Names.{same_name}
+use Rattle.part_tree.specs.Names.{IsFieldName, same_name}
 use Rattle.field_model.specs.Texts.{name_text}
+use Rattle.field_model.specs.Update.{RawItem}
 
 -- a name that some text names
 abbrev pub IsNamed : FieldName → Type 0
@@ -41,3 +42,7 @@ wrong items = wrong_from 1 [] items
 abbrev pub AreSound : List EditItem → Type 0
 AreSound [] = Unit {0}
 AreSound (i ∷ items) = IsNamed i.name × (is_empty_set i.change ≡ false) × (names_one i.name items ≡ false) × AreSound items
+
+-- raw items that are of fields
+abbrev pub AreOfFields : List RawItem → Type 0
+AreOfFields items = AllByRecursion (λ i. IsFieldName i.name) items

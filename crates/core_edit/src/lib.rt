@@ -3,6 +3,7 @@
 //! A date exists where `jiff` says so.
 #![tactic(auto)]
 
+mod changes;
 mod date;
 mod edit;
 mod effect;
@@ -15,6 +16,8 @@ mod short;
 mod tests;
 mod value_text;
 
+pub use bext_fields::RawChange;
+pub use changes::raw_changes;
 pub use edit::{Edit, EditFault};
 pub use effect::has_effect;
 pub use name::{field_name, name_text};

@@ -1,5 +1,5 @@
 // The bytes that a text is laid as.
-ghost use Rattle.std.specs.Prelude.{◌≡◌, ◌<◌, ◌++◌, Some, IfOk, replicate, option_map};
+ghost use Rattle.std.specs.Prelude.{◌≡◌, ◌<◌, ◌≤◌, ◌++◌, Some, IfOk, replicate, option_map};
 ghost use Rattle.field_model.specs.Bext.{form_of, width as spec_width};
 ghost use Rattle.me_bytes.specs.Bytes.{le_bytes};
 ghost use Rattle.field_model.specs.Numbers.{count_of, loudness_of};
@@ -94,6 +94,17 @@ fn loudness_raw(text: &[u8]) -> Option<Short>
 {
     let n = loudness_of(text)?;
     Some(Short::of(&n.to_le_bytes()))
+}
+
+/// The value of a loudness field that has none.
+pub const NO_LOUDNESS: [u8; 2] = [0xff, 0x7f];
+
+/// So many zeros.
+pub fn zeros(alloc: Global, len: usize) -> Result<Bytes, NoMemory>
+    requires { len < 512 }
+    ensures { IfOk result (λ bytes. bytes ≡ replicate len 0) }
+{
+    Bytes::new(alloc, &[0; 512][..len])
 }
 
 // The text, and so many zeros.
