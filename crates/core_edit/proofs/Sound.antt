@@ -1,5 +1,5 @@
 -- Items of which none is faulty are sound.
-use Rattle.std.proofs.Common.{◌≡◌, ℕ, suc, List, [], ◌∷◌, ◌++◌, Bool, true, false, ◌||◌, refl, sym, ap, ◌∙◌, Some, None, if◌then◌else◌}
+use Rattle.std.proofs.Common.{◌≡◌, ℕ, suc, List, [], ◌∷◌, ◌++◌, Bool, true, false, ◌||◌, refl, sym, ap, ◌∙◌, Some, None, if◌then◌else◌, cond, filter}
 use Rattle.std.proofs.lemmas.Bool.{or_parts, or_from, false≢true}
 use Rattle.part_tree.specs.declared.field.EditItem.{EditItem}
 use Rattle.part_tree.specs.declared.field.FieldName.{FieldName}
@@ -45,3 +45,22 @@ sound_from n seen (i ∷ items) named h =
     let mine : (j : EditItem) → names_one j.name (seen ++ i ∷ []) ≡ false → same_name i.name j.name ≡ false =
     λ j none. (or_parts _ _ (or_parts (names_one j.name seen) (names_one j.name (i ∷ [])) (sym (named_both j.name seen (i ∷ [])) ∙ none)).1).0 in
     (named.0, p.1, later (suc n) i (seen ++ i ∷ []) items p.2 mine, sound_from (suc n) (seen ++ i ∷ []) items named.1 p.2)
+
+-- ---- some of the items
+
+names_kept : (p : EditItem → Bool) (name : FieldName) (items : List EditItem) → names_one name items ≡ false → names_one name (filter p items) ≡ false
+names_kept p name [] h = refl
+names_kept p name (i ∷ items) h = let z = or_parts (same_name i.name name) (names_one name items) h in go (p i) z.0 (names_kept p name items z.1)
+  where
+    go : (t : Bool) → same_name i.name name ≡ false → names_one name (filter p items) ≡ false → names_one name (cond t (i ∷ filter p items) (filter p items)) ≡ false
+    go true first rest = or_from _ _ first rest
+    go false first rest = rest
+
+-- some of sound items are sound
+pub kept_sound : (p : EditItem → Bool) (items : List EditItem) → AreSound items → AreSound (filter p items)
+kept_sound p [] h = tt
+kept_sound p (i ∷ items) h = go (p i) (names_kept p i.name items h.2) (kept_sound p items h.3)
+  where
+    go : (t : Bool) → names_one i.name (filter p items) ≡ false → AreSound (filter p items) → AreSound (cond t (i ∷ filter p items) (filter p items))
+    go true other rest = (h.0, h.1, other, rest)
+    go false other rest = rest

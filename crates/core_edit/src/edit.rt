@@ -1,9 +1,13 @@
 // An edit: items of which no two name one field.
-ghost use Rattle.std.specs.Prelude.{◌≡◌};
+ghost use Rattle.std.specs.Prelude.{◌≡◌, ◌++◌, ◌∷◌, [], IfOk, OnOk, filter};
+ghost use Rattle.part_tree.specs.Fields.{values};
+ghost use Rattle.field_model.specs.Lawful.{IsLawful};
+ghost use Rattle.field_model.specs.Update as spec;
 ghost use Rattle.core_edit.specs.Edits.{AreNamed, AreSound, is_empty_set, names_one};
 ghost use Rattle.core_edit.specs.Made.{MakesEdit};
 
-use part_tree::{Change, EditItem, FieldName};
+use crate::effect::has_effect;
+use part_tree::{Bytes, Change, EditItem, FieldName, Fields, NoMemory};
 use std::alloc::Global;
 use std::marker::Model;
 
@@ -53,6 +57,13 @@ impl Edit {
         Ok(Edit { held: items })
     }
 
+    fn of(items: Vec<EditItem>) -> Edit
+        requires { AreSound items.items }
+        ensures { result ≡ items.items }
+    {
+        Edit { held: items }
+    }
+
     /// The items in order.
     pub fn items(&self) -> &[EditItem]
         ensures items { result.now ≡ self.now }
@@ -80,5 +91,54 @@ fn sets_nothing(change: &Change) -> bool
     match change {
         Change::Set(text) => text.as_slice().is_empty(),
         Change::Remove => false,
+    }
+}
+
+/// The items that have an effect, in order.
+pub fn effective(alloc: Global, fields: &Fields, edit: &Edit) -> Result<Edit, NoMemory>
+    requires { IsLawful (values fields.now) }
+    ensures { IfOk result (λ e. e ≡ spec.effective (values fields.now) edit.now) }
+{
+    let items = edit.items();
+    let mut kept = Vec::new(alloc);
+    for item in items {
+        keep(alloc, &mut kept, fields, item)?;
+    }
+    Ok(Edit::of(kept))
+}
+
+// Appends a copy of an item that has an effect.
+fn keep(
+    alloc: Global,
+    kept: &mut Vec<EditItem>,
+    fields: &Fields,
+    item: &EditItem,
+) -> Result<(), NoMemory>
+    requires { IsLawful (values fields.now) }
+    ensures { OnOk result (kept.new.items ≡ kept.old.items ++ filter (spec.has_effect (values fields.now)) (item.now ∷ [])) }
+{
+    if !has_effect(fields, item) {
+        return Ok(());
+    }
+    let change = copy_change(alloc, &item.change)?;
+    let copy = EditItem {
+        name: item.name,
+        change,
+    };
+    match kept.push(copy) {
+        Ok(()) => Ok(()),
+        Err(_) => Err(NoMemory),
+    }
+}
+
+fn copy_change(alloc: Global, change: &Change) -> Result<Change, NoMemory>
+    ensures { IfOk result (λ copy. copy ≡ change.now) }
+{
+    match change {
+        Change::Set(text) => {
+            let text = Bytes::new(alloc, text.as_slice())?;
+            Ok(Change::Set(text))
+        }
+        Change::Remove => Ok(Change::Remove),
     }
 }

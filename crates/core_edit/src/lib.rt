@@ -18,7 +18,7 @@ mod value_text;
 
 pub use bext_fields::RawChange;
 pub use changes::raw_changes;
-pub use edit::{Edit, EditFault};
+pub use edit::{Edit, EditFault, effective};
 pub use effect::has_effect;
 pub use name::{field_name, name_text};
 pub use part_tree::{Change, EditItem};
