@@ -1,9 +1,15 @@
 -- The spans of units, by their numbers alone.
-use Rattle.std.proofs.Common.{◌≡◌, ◌∙◌, ℕ, ◌+◌, ◌≤◌, List, [], ◌∷◌, ◌++◌, Bool, true, false, refl, sym, ap, subst, arith, inl, inr}
+use Rattle.std.proofs.Common.{◌≡◌, ◌∙◌, ℕ, ◌+◌, ◌<◌, ◌≤◌, List, [], ◌∷◌, ◌++◌, length, drop, get_or, Bool, true, false, refl, sym, ap, subst, arith, inl, inr}
 use Rattle.std.specs.List.{AllByRecursion}
+use Rattle.std.proofs.lemmas.List.{at_drop_more}
 use Rattle.unit_plan.specs.declared.cut.CutAt.{CutAt}
 use Rattle.unit_plan.specs.declared.row.UnitCuts.{UnitCuts}
 use Rattle.unit_plan.specs.Cuts.{SpansAscend, IsExact, IsSoFar, EndsFile, FitsIn}
+use Rattle.unit_plan.specs.Sized.{lost}
+
+-- the next item of a list, and those behind it
+pub next_item : {X : Type 0} (xs : List X) (i : ℕ) (x : X) → i < length xs → x ≡ get_or xs i x → drop i xs ≡ x ∷ drop (i + 1) xs
+next_item xs i x lt e = at_drop_more (λ ys. ys) xs i x lt ∙ ap (λ y. y ∷ drop (i + 1) xs) (sym e)
 
 -- one span more
 pub ascend_more : (from low end : ℕ) (ks : List CutAt) (k : CutAt) → SpansAscend from ks low → low ≡ k.span.at → k.span.at + k.span.len ≡ end → k.keep ≤ k.span.len → SpansAscend from (ks ++ k ∷ []) end
@@ -48,3 +54,10 @@ same_so_far from low at old new cuts fits le h =
       ascend = subst (λ (ks : List CutAt). SpansAscend from ks at) (sym items) (ascend_high from low at old.cuts.items le h.ascend);
       exact = λ f. subst (AllByRecursion IsExact) (sym items) (h.exact (sym fits ∙ f));
     }
+
+-- ---- lengths
+
+-- the bytes of all spans lie between the two places
+pub lost_low : (from end : ℕ) (ks : List CutAt) → SpansAscend from ks end → lost ks + from ≤ end
+lost_low from end [] h = omega (arith, h)
+lost_low from end (k ∷ ks) h = omega (arith, h.0, lost_low (k.span.at + k.span.len) end ks h.2)

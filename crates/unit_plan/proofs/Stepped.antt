@@ -10,6 +10,7 @@ use Rattle.unit_plan.specs.Places.{Follow}
 use Rattle.unit_plan.specs.Rows.{Outcome, both, counts, Open, none, unit_at, closed, no_more, open_next, row}
 use Rattle.unit_plan.specs.Cuts.{open_changed}
 use Rattle.unit_plan.proofs.Outcomes.{both_assoc}
+use Rattle.unit_plan.proofs.Spans.{next_item}
 use Rattle.unit_plan.proofs.Slots.{slot_more, window_long}
 
 pub step_stays : (ends : Bool) (at next k : ℕ) (lacks more : Bool) (open_now after : Open) (xs : List Shape) (old shut new : Outcome) → at ≤ next → not (no_more xs) ≡ more
@@ -93,10 +94,5 @@ unfolding row
 end_row ends at o old = refl
 
 -- the next place, and those behind it
-pub places_more : (ps : List Place) (i : ℕ) (p : Place) → i < length ps → p ≡ get_or ps i p → drop i ps ≡ p ∷ drop (i + 1) ps
-places_more [] i p lt e = absurd (omega arith)
-places_more (q ∷ ps) zero p lt e = let next : suc 0 ≡ 0 + 1 = omega arith in ap (λ (z : Place). z ∷ ps) (sym e) ∙ ap (λ (n : ℕ). p ∷ drop n (q ∷ ps)) next
-places_more (q ∷ ps) (suc i) p lt e = let next : suc (i + 1) ≡ suc i + 1 = omega arith in places_more ps i p (omega arith) e ∙ ap (λ (n : ℕ). p ∷ drop n (q ∷ ps)) next
-
 pub left_places : (at end : ℕ) (ps : List Place) (i : ℕ) (p : Place) → i < length ps → p ≡ get_or ps i p → Follow at (drop i ps) end → (p.at ≡ at) × (p.at ≤ p.next) × (p.next ≤ end) × Follow p.next (drop (i + 1) ps) end
-left_places at end ps i p lt e h = subst (λ (qs : List Place). Follow at qs end) (places_more ps i p lt e) h
+left_places at end ps i p lt e h = subst (λ (qs : List Place). Follow at qs end) (next_item ps i p lt e) h

@@ -3,3 +3,4 @@ pub mod Places
 pub mod Rows
 pub mod Cuts
 pub mod Sized
+pub mod Planned

@@ -5,7 +5,8 @@ use Rattle.unit_plan.specs.Places.{shape_in}
 use Rattle.unit_plan.specs.Rows.{both, row}
 use Rattle.unit_plan.specs.Cuts.{BeginsBefore, IsSoFar, SpansAscend, open_in, open_start, outcome_in}
 use Rattle.unit_plan.proofs.Outcomes.{and_true}
-use Rattle.unit_plan.proofs.Stepped.{follow_last, more_is, end_row, left_places, places_more}
+use Rattle.unit_plan.proofs.Spans.{next_item}
+use Rattle.unit_plan.proofs.Stepped.{follow_last, more_is, end_row, left_places}
 use Rattle.unit_plan.proofs.row.unit_cuts.Goals as goal
 
 pub step-requires-clause-order : goal.step-requires-clause-order
@@ -40,7 +41,7 @@ loop-i-preserved c =
           let old = outcome_in b c.loop-i.units in
           sym (c.in_ok-unit.ensures.row b ends xs (omega (arith, h, left.2)) (more_is (shape_in b) places (i + 1)))
           ∙ ap (λ (k : ℕ). both old (row ends k (open_in b k c.loop-i.unit) (shape_in b p ∷ xs))) left.0
-          ∙ ap (λ (ps : List Place). both old (row ends at (open_in b at c.loop-i.unit) (map (shape_in b) ps))) (sym (places_more places i p c.loop-i-test.true c.index-places-i.is))
+          ∙ ap (λ (ps : List Place). both old (row ends at (open_in b at c.loop-i.unit) (map (shape_in b) ps))) (sym (next_item places i p c.loop-i-test.true c.index-places-i.is))
           ∙ c.loop-i.invariant.row b h;
     }
 

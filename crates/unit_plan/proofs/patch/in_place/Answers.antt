@@ -1,0 +1,14 @@
+use Rattle.std.proofs.Common.{◌≡◌, ◌≤◌, ◌^◌, length}
+use Rattle.std.specs.List.{flat_map}
+use Rattle.edit_journal.specs.Journal.{all_bytes}
+use Rattle.unit_plan.specs.Cuts.{patch_of}
+use Rattle.unit_plan.proofs.Ruled.{keeps_rules}
+use Rattle.unit_plan.proofs.patch.in_place.Goals as goal
+
+pub returns-in-Some-clause-rules : goal.returns-in-Some-clause-rules
+returns-in-Some-clause-rules c =
+    let ps = c.in-Some.patches in
+    let is : ps ≡ flat_map patch_of c.args.cuts.now = rw c.in-Some.is at c.in_ok-patches_of.ensures.patches in
+    let few : length ps ≤ 65536 = rw c.in-Some.is at c.in_ok-patches_of.ensures.few in
+    let small : all_bytes ps ≤ 2 ^ 24 = rw c.in-Some.is at c.in_ok-patches_of.ensures.small in
+    keeps_rules c.args.len c.args.new_len c.args.cuts.now ps c.requires.ascend c.requires.fits c.requires.new c.requires.old_small c.requires.new_small is few small
