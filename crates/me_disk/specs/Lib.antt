@@ -7,5 +7,6 @@ pub mod Memory
 pub mod Reopened
 pub mod Store
 pub mod Silent
+pub mod Sparse
 pub mod Holds
 pub mod Streams

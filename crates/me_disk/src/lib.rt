@@ -6,7 +6,9 @@ mod depot;
 mod limits;
 mod memory;
 mod path;
+mod pieces;
 mod reopen;
+mod sparse;
 mod store;
 mod stream;
 #[cfg(test)]
@@ -16,6 +18,8 @@ pub use depot::{Depot, DepotFault, Slot, WorkState};
 pub use limits::{FailAt, Room};
 pub use memory::{MemoryDepot, Pick};
 pub use path::PathDepot;
+pub use pieces::Run;
+pub use sparse::SparseDepot;
 pub use stream::{
     MemorySink, MemorySource, Sink, SinkFault, Source, SourceFault, StdSink, StdSource,
 };

@@ -2,8 +2,8 @@
 ghost use Rattle.std.specs.Prelude.{◌<◌, length};
 
 use crate::{
-    Depot, DepotFault, FailAt, MemoryDepot, MemorySink, MemorySource, PathDepot, Pick, Room, Sink,
-    Slot, Source,
+    Depot, DepotFault, FailAt, MemoryDepot, MemorySink, MemorySource, PathDepot, Pick, Room, Run,
+    Sink, Slot, Source, SparseDepot,
 };
 use std::alloc::Global;
 use std::process::Abort;
@@ -316,5 +316,182 @@ fn a_depot_over_a_path_keeps_its_files(rt: HostRuntime) -> Result<(), Fail> {
     assert!(rt; put_main(&mut depot).is_ok());
     assert_eq!(rt; fs::read(&rt, name.as_str())?.as_slice(), b"new".as_slice());
     fs::remove_file(&rt, name.as_str())?;
+    Ok(())
+}
+
+// Bytes of `Main`, from a place on.
+#[derive(Clone, Copy)]
+struct Shown {
+    at: u64,
+    bytes: &'static [u8],
+}
+
+const fn shows(at: u64, bytes: &'static [u8]) -> Shown {
+    Shown { at, bytes }
+}
+
+fn check_read(rt: &impl Abort, depot: &mut SparseDepot, row: Shown) {
+    let mut into = [7u8; 8];
+    let count = row.bytes.len().min(8);
+    assert!(rt;
+        depot
+            .read_at(Slot::Main, row.at, &mut into[..count])
+            .is_ok()
+    );
+    assert_eq!(rt; &into[..count], row.bytes);
+}
+
+fn check_reads(rt: &impl Abort, depot: &mut SparseDepot, rows: &[Shown], sum: u64) {
+    for row in rows {
+        check_read(rt, depot, *row);
+    }
+    assert_eq!(rt; depot.bytes_read(), sum);
+}
+
+fn check_counts(rt: &impl Abort, depot: &SparseDepot, written: u64, faults: u64) {
+    assert_eq!(rt; depot.written(), written);
+    assert_eq!(rt; depot.faults(), faults);
+}
+
+// 5,000,000,000 zeros with `abcd` before and `xyz` after.
+fn large_depot(alloc: Global) -> Result<SparseDepot, Fail> {
+    let mut runs = Vec::new(alloc);
+    runs.push(Run::Bytes(b"abcd".to_vec(alloc)?))?;
+    runs.push(Run::Zero(5_000_000_000))?;
+    runs.push(Run::Bytes(b"xyz".to_vec(alloc)?))?;
+    Ok(SparseDepot::new(alloc, Some(runs))?)
+}
+
+#[test]
+fn a_sparse_depot_reads_over_runs(rt: HostRuntime) -> Result<(), Fail> {
+    let mut depot = large_depot(rt.alloc())?;
+    let rows = [
+        shows(0, b"abcd\0"),
+        shows(2_500_000_000, b"\0\0\0"),
+        shows(5_000_000_002, b"\0\0xyz"),
+        shows(5_000_000_007, b""),
+    ];
+    check_reads(&rt, &mut depot, &rows, 13);
+    check_counts(&rt, &depot, 0, 0);
+    Ok(())
+}
+
+fn write_over(depot: &mut SparseDepot) -> Result<(), DepotFault> {
+    depot.write_main(2, b"PQRS")?;
+    depot.write_main(3, b"T")?;
+    depot.write_main(100, b"in")?;
+    depot.write_main(5_000_000_006, b"longer")
+}
+
+fn cut_and_lengthen(depot: &mut SparseDepot) -> Result<(), DepotFault> {
+    depot.set_main_len(101)?;
+    depot.write_main(101, b"end")
+}
+
+#[test]
+fn a_sparse_depot_writes_over_runs(rt: HostRuntime) -> Result<(), Fail> {
+    let mut depot = large_depot(rt.alloc())?;
+    assert!(rt; write_over(&mut depot).is_ok());
+    let rows = [
+        shows(0, b"abPTRS\0"),
+        shows(99, b"\0in\0"),
+        shows(5_000_000_004, b"xylonger"),
+    ];
+    check_reads(&rt, &mut depot, &rows, 19);
+    assert_eq!(rt; depot.len(Slot::Main).ok(), Some(5_000_000_012));
+    check_counts(&rt, &depot, 13, 0);
+    Ok(())
+}
+
+#[test]
+fn a_cut_sparse_depot_grows_again(rt: HostRuntime) -> Result<(), Fail> {
+    let mut depot = large_depot(rt.alloc())?;
+    assert!(rt; write_over(&mut depot).is_ok());
+    assert!(rt; cut_and_lengthen(&mut depot).is_ok());
+    let rows = [shows(98, b"\0\0iend"), shows(0, b"abPTRS\0\0")];
+    check_reads(&rt, &mut depot, &rows, 14);
+    assert_eq!(rt; depot.len(Slot::Main).ok(), Some(104));
+    check_counts(&rt, &depot, 16, 0);
+    Ok(())
+}
+
+fn append_blocks(depot: &mut SparseDepot) -> Result<(), DepotFault> {
+    depot.begin_work()?;
+    depot.append_work(b"ab")?;
+    depot.append_work(b"cd")?;
+    depot.append_work(&[0; 65_536])?;
+    depot.append_work(&[0; 65_536])?;
+    depot.append_work(b"e")?;
+    depot.sync_work()?;
+    depot.install_main()
+}
+
+fn check_lens(rt: &impl Abort, depot: &mut SparseDepot, main: u64, journal: u64) {
+    assert_eq!(rt; depot.len(Slot::Main).ok(), Some(main));
+    assert_eq!(rt; depot.len(Slot::Journal).ok(), Some(journal));
+    assert_eq!(rt; depot.has(Slot::Journal).ok(), Some(journal > 0));
+    assert_eq!(rt; depot.has(Slot::Work).ok(), Some(false));
+}
+
+#[test]
+fn a_sparse_depot_installs_what_it_made(rt: HostRuntime) -> Result<(), Fail> {
+    let mut depot = SparseDepot::new(rt.alloc(), None)?;
+    assert_eq!(rt; depot.has(Slot::Main).ok(), Some(false));
+    check_lens(&rt, &mut depot, 0, 0);
+    assert!(rt; append_blocks(&mut depot).is_ok());
+    check_lens(&rt, &mut depot, 131_077, 0);
+    let rows = [shows(1, b"bcd\0"), shows(131_073, b"\0\0\0e")];
+    check_reads(&rt, &mut depot, &rows, 8);
+    check_counts(&rt, &depot, 131_077, 0);
+    Ok(())
+}
+
+#[test]
+fn a_sparse_depot_keeps_a_journal(rt: HostRuntime) -> Result<(), Fail> {
+    let mut depot = large_depot(rt.alloc())?;
+    assert!(rt; put_journal(&mut depot, b"redo").is_ok());
+    check_lens(&rt, &mut depot, 5_000_000_007, 4);
+    assert!(rt; depot.sync_main().is_ok());
+    assert!(rt; depot.drop_journal().is_ok());
+    assert!(rt; depot.drop_work().is_ok());
+    check_lens(&rt, &mut depot, 5_000_000_007, 0);
+    check_counts(&rt, &depot, 4, 0);
+    Ok(())
+}
+
+#[test]
+fn a_sparse_depot_counts_reads_past_the_end(rt: HostRuntime) -> Result<(), Fail> {
+    let mut depot = large_depot(rt.alloc())?;
+    let mut into = [7u8; 4];
+    assert!(rt; depot.read_at(Slot::Main, 5_000_000_004, &mut into).is_err());
+    assert!(rt;
+        depot
+            .read_at(Slot::Main, 6_000_000_000, &mut into[..0])
+            .is_err()
+    );
+    assert!(rt; depot.read_at(Slot::Journal, 0, &mut into).is_err());
+    check_counts(&rt, &depot, 0, 3);
+    assert_eq!(rt; depot.bytes_read(), 0);
+    Ok(())
+}
+
+#[test]
+fn a_sparse_depot_counts_lengths_past_the_last(rt: HostRuntime) -> Result<(), Fail> {
+    let mut depot = large_depot(rt.alloc())?;
+    assert!(rt; depot.write_main(u64::MAX, b"a").is_err());
+    assert!(rt; depot.write_main((1 << 63) - 1, b"a").is_err());
+    assert!(rt; depot.set_main_len(1 << 63).is_err());
+    check_counts(&rt, &depot, 0, 3);
+    check_lens(&rt, &mut depot, 5_000_000_007, 0);
+    Ok(())
+}
+
+#[test]
+fn a_longer_file_has_no_length(rt: HostRuntime) -> Result<(), Fail> {
+    let mut runs = Vec::new(rt.alloc());
+    runs.push(Run::Zero(1 << 63))?;
+    let mut depot = SparseDepot::new(rt.alloc(), Some(runs))?;
+    assert!(rt; depot.len(Slot::Main).is_err());
+    check_counts(&rt, &depot, 0, 1);
     Ok(())
 }
