@@ -25,6 +25,8 @@ mod place;
 mod plan;
 mod row;
 mod segment;
+#[cfg(test)]
+mod tests;
 mod unit;
 
 use carrier_model as _;
