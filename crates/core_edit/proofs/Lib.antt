@@ -6,3 +6,4 @@ pub mod RawItems
 pub mod Sound
 pub mod Tables
 pub mod Texts
+pub mod Updated

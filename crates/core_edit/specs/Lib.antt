@@ -4,3 +4,4 @@ pub mod Hundredths
 pub mod Made
 pub mod Names
 pub mod Shown
+pub mod Updates

@@ -3,6 +3,7 @@
 //! A date exists where `jiff` says so.
 #![tactic(auto)]
 
+mod apply;
 mod changes;
 mod date;
 mod edit;
@@ -16,6 +17,7 @@ mod short;
 mod tests;
 mod value_text;
 
+pub use apply::update;
 pub use bext_fields::RawChange;
 pub use changes::raw_changes;
 pub use edit::{Edit, EditFault, effective};

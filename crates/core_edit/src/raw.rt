@@ -57,7 +57,7 @@ pub fn fits_width(field: BextField, text: &[u8]) -> bool
     field.row() == 14 || text.len() <= width(field)
 }
 
-// The length of a field's range, 0 for the coding history.
+/// The length of a field's range, 0 for the coding history.
 pub fn width(field: BextField) -> usize
     ensures { result ≡ spec_width field }
 {
