@@ -225,4 +225,86 @@ mod tests {
         };
         assert_eq!(rt; fault, Some(InfoFault::Truncated { at: 10 }));
     }
+
+    // The spelling of the list, where its size can be told.
+    fn spelled(rt: HostRuntime, list: &InfoList) -> Result<Bytes, Fail> {
+        if list.body_len() > 0xffff_ffff {
+            return Ok(Bytes::of(Vec::new(rt.alloc())));
+        }
+        Ok(spell_info(rt.alloc(), list)?)
+    }
+
+    #[test]
+    fn edits(rt: HostRuntime) -> Result<(), Fail> {
+        // the identifier, its new value, the length of the body after it, and the whole list after it
+        let rows: [(&[u8; 4], Option<&[u8]>, u64, &[u8]); 4] = [
+            (
+                b"INAM",
+                Some(b"Hi\0"),
+                33,
+                b"LIST\x21\0\0\0INFOINAM\x03\0\0\0Hi\0\0ICRD\x05\0\0\x002024\0\0abc\0",
+            ),
+            (
+                b"INAM",
+                None,
+                21,
+                b"LIST\x15\0\0\0INFOICRD\x05\0\0\x002024\0\0abc\0",
+            ),
+            (
+                b"ISFT",
+                Some(b"x\0"),
+                51,
+                b"LIST\x33\0\0\0INFOINAM\x01\0\0\0A\0INAM\x02\0\0\0B\0ICRD\x05\0\0\x002024\0\0ISFT\x02\0\0\0x\0abc\0",
+            ),
+            (
+                b"XXXX",
+                None,
+                41,
+                b"LIST\x29\0\0\0INFOINAM\x01\0\0\0A\0INAM\x02\0\0\0B\0ICRD\x05\0\0\x002024\0\0abc\0",
+            ),
+        ];
+        for (id, value, len, whole) in rows.iter() {
+            let value = match value {
+                None => None,
+                Some(raw) => Some(Bytes::new(rt.alloc(), raw)?),
+            };
+            let mut list = read_info(rt.alloc(), BODY)?;
+            list.put(&FourCc(**id), value)?;
+            assert_eq!(rt; list.body_len(), *len);
+            assert_eq!(rt; spelled(rt, &list)?.as_slice(), *whole);
+        }
+        Ok(())
+    }
+
+    #[test]
+    fn makes_a_list(rt: HostRuntime) -> Result<(), Fail> {
+        let changes = [
+            InfoChange {
+                id: FourCc(*b"ICRD"),
+                value: Some(Bytes::new(rt.alloc(), b"2024\0")?),
+            },
+            InfoChange {
+                id: FourCc(*b"IART"),
+                value: None,
+            },
+            InfoChange {
+                id: FourCc(*b"INAM"),
+                value: Some(Bytes::new(rt.alloc(), b"A\0")?),
+            },
+            InfoChange {
+                id: FourCc(*b"ICRD"),
+                value: None,
+            },
+        ];
+        let mut list = InfoList::new(rt.alloc());
+        list.put_all(rt.alloc(), &changes)?;
+        assert_eq!(rt; list.count(), 1);
+        assert!(rt; list.has_item(&FourCc(*b"INAM")));
+        assert!(rt; !list.has_item(&FourCc(*b"ICRD")));
+        assert_eq!(rt;
+            spelled(rt, &list)?.as_slice(),
+            b"LIST\x0e\0\0\0INFOINAM\x02\0\0\0A\0".as_slice()
+        );
+        Ok(())
+    }
 }
