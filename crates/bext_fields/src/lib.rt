@@ -1,5 +1,5 @@
 //! The chunk `bext` of EBU Tech 3285 (versions 0 to 2) as a table of its ranges: which bytes are which field, how one field
-//! is laid without a byte of another, and how the version is raised, and how a body is edited. It knows bodies alone.
+//! is laid without a byte of another, how the version is raised, and how a body is edited. It knows bodies alone.
 #![tactic(auto)]
 
 ghost use Rattle.std.specs.Prelude.{◌≡◌, ◌+◌, ◌<◌, ◌≤◌, ℕ, List, length, get_or, position, IsErr, ◌↔◌, IfErr};
@@ -9,6 +9,8 @@ ghost use Rattle.bext_fields.specs.Table.{IsInside, IsModelRow, bytes_of, is_of,
 
 mod change;
 mod edit;
+#[cfg(test)]
+mod tests;
 
 pub use change::RawChange;
 pub use edit::{NEW_BODY, edited_body, needed_version, new_edited_body};
@@ -251,60 +253,4 @@ fn clear_loudness(bext: &mut [u8])
     set_raw(bext, &BEXT[10], &NO_LOUDNESS);
     set_raw(bext, &BEXT[9], &NO_LOUDNESS);
     set_raw(bext, &BEXT[8], &NO_LOUDNESS);
-}
-
-#[cfg(test)]
-mod tests {
-    use super::*;
-    use std::test::Fail;
-
-    // A body of zeros whose version, UMID and loudness fields are 1.
-    fn body_of(version: u8) -> [u8; 604] {
-        let mut body = [0; 604];
-        body[346] = version;
-        body[348] = 1;
-        body[411] = 1;
-        body[412] = 1;
-        body[421] = 1;
-        body
-    }
-
-    #[test]
-    fn raises(rt: HostRuntime) -> Result<(), Fail> {
-        // the old version, the new one, and bytes 346, 348, 411, 412, 413, 420 and 421 of the body after it
-        let rows: [(u8, u16, [u8; 7]); 5] = [
-            (0, 1, [1, 0, 0, 1, 0, 0, 1]),
-            (0, 2, [2, 0, 0, 0xff, 0x7f, 0xff, 0x7f]),
-            (1, 1, [1, 1, 1, 1, 0, 0, 1]),
-            (1, 2, [2, 1, 1, 0xff, 0x7f, 0xff, 0x7f]),
-            (3, 2, [3, 1, 1, 1, 0, 0, 1]),
-        ];
-        for (old, to, after) in rows.iter() {
-            let mut body = body_of(*old);
-            if *to == 1 {
-                raise_version(&mut body, 1);
-            } else {
-                raise_version(&mut body, 2);
-            }
-            let found = [
-                body[346], body[348], body[411], body[412], body[413], body[420], body[421],
-            ];
-            assert_eq!(rt; found.as_slice(), after.as_slice());
-        }
-        Ok(())
-    }
-
-    #[test]
-    fn lays_one_range(rt: HostRuntime) -> Result<(), Fail> {
-        let mut body = [7; 602];
-        set_raw(&mut body, &BEXT[3], b"2024-01-31");
-        assert_eq!(rt; get_raw(&body, &BEXT[3]), b"2024-01-31".as_slice());
-        assert_eq!(rt; &body[318..320], [7, 7].as_slice());
-        assert_eq!(rt; &body[330..332], [7, 7].as_slice());
-        assert_eq!(rt; locate(&BEXT, BextField::Umid), Some(7));
-        assert_eq!(rt; locate(&BEXT, BextField::CodingHistory), None);
-        assert_eq!(rt; check_bext(601), Err(ShortBext { len: 601 }));
-        assert_eq!(rt; check_bext(602), Ok(()));
-        Ok(())
-    }
 }
