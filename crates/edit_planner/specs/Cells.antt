@@ -1,0 +1,60 @@
+-- The cells of a form as a planner holds them: by their places, and by what an edit reads of them (this project's own).
+use Rattle.std.specs.Prelude.{◌≡◌, ◌≤◌, ℕ, ◌+◌, ◌==◌, List, [], ◌∷◌, length, map, Bool, true, false, ◌&&◌, not, if◌then◌else◌}
+use Rattle.std.specs.List.{flat_map, AllByRecursion}
+use Rattle.part_tree.specs.Letters.{four}
+use Rattle.part_tree.specs.declared.part.Role.{Role}
+use Rattle.container_model.specs.Chunk.{Chunk, spell, spell_all}
+use Rattle.container_model.specs.Units.{Cell, kept, gap, edited, was, lacks_pad}
+use Rattle.carrier_model.specs.Info.{list_run}
+use Rattle.info_list.specs.Info.{item_of}
+use Rattle.info_list.specs.declared.InfoList.{InfoList}
+use Rattle.wave_model.specs.Fields.{is_bext, is_info}
+use Rattle.wave_model.specs.Edited.{parts_of}
+use Rattle.wave_file.specs.Map.{role_of, at_front}
+use Rattle.edit_planner.specs.declared.cells.CellAt.{CellAt}
+use Rattle.edit_planner.specs.declared.cells.Content.{Content}
+use Rattle.edit_planner.specs.declared.cells.Content.TheVariants.{Kept, Body, Listed, Gap, Edited}
+
+-- ---- what a planner holds of a cell
+
+-- the list of items that a chunk is
+abbrev pub list_in : Chunk → InfoList
+list_in c = record { items = map item_of (list_run c).chunks; rest = (list_run c).left }
+
+-- a chunk that is kept: a list by its items, `bext` by its body, and any other by its identifier and what it is to an edit
+abbrev pub content_of : ℕ → Chunk → Content
+content_of at c =
+    if is_info c then Listed (list_in c)
+    else (if is_bext c then Body c.body
+    else Kept (four c.id) (at_front at (role_of c)))
+
+-- how many parts some chunks count for
+abbrev pub parts_in : List Chunk → ℕ
+parts_in cs = length (flat_map parts_of cs)
+
+-- a cell at a place of the file
+abbrev pub told : ℕ → Cell → CellAt
+told at (kept c) = record { at = at; next = at + length (spell c); lacks_pad = lacks_pad c; content = content_of at c }
+told at (gap c) = record { at = at; next = at + length (spell c); lacks_pad = lacks_pad c; content = Gap }
+told at (edited old now) = record { at = at; next = at + length (spell_all old); lacks_pad = false; content = Edited (spell_all now) (parts_in now) }
+
+-- cells that follow each other from a place on
+abbrev pub told_row : ℕ → List Cell → List CellAt
+told_row at [] = []
+told_row at (x ∷ xs) = told at x ∷ told_row (at + length (spell_all (was x))) xs
+
+-- ---- cells where something is edited
+
+-- what stands there now meets no such test
+abbrev pub Unmet : (Chunk → Bool) → List Cell → Type 0
+Unmet p [] = Unit {0}
+Unmet p (kept c ∷ xs) = Unmet p xs
+Unmet p (gap c ∷ xs) = Unmet p xs
+Unmet p (edited old now ∷ xs) = AllByRecursion (λ c. p c ≡ false) now × Unmet p xs
+
+-- ---- whatever the file
+
+-- the cells follow each other from a place up to an end
+abbrev pub Follow : ℕ → List CellAt → ℕ → Type 0
+Follow at [] end = at ≤ end
+Follow at (x ∷ xs) end = (x.at ≡ at) × (x.at ≤ x.next) × (x.next ≤ end) × Follow x.next xs end

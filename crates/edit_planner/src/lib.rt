@@ -1,0 +1,8 @@
+//! Plans an edit of a file: from its map and an edit to the places that change, with what is to stand there.
+//! It knows the kinds of files that are edited, and no device.
+#![tactic(auto)]
+
+mod cells;
+mod wholes;
+
+pub use cells::{CellAt, Content};

@@ -1,0 +1,113 @@
+// Chunks that are fields as a whole: `axml`, `iXML`, `_PMX` and `MD5 `.
+ghost use Rattle.std.specs.Prelude.{◌≡◌, ◌≤◌, ◌<◌, ◌+◌, ◌^◌, [], ℕ, List, IfOk, IfSome, OnOk, length, Bool, Some, true, if◌then◌else◌, ◌==◌, option_copied};
+ghost use Rattle.std.specs.List.{flat_map};
+ghost use Rattle.part_tree.specs.declared.field.Value.{Value};
+ghost use Rattle.container_model.specs.Chunk.{Chunk, spell_all};
+ghost use Rattle.container_model.specs.Units.{Cell, live};
+ghost use Rattle.carrier_model.specs.Cells.{acted_cells};
+ghost use Rattle.carrier_model.specs.Info.{one_of};
+ghost use Rattle.part_tree.specs.Names.{whole_ids};
+ghost use Rattle.wave_model.specs.Fields.{is_whole as is_field};
+ghost use Rattle.wave_model.specs.Carry.{some_chunk, whole_by};
+ghost use Rattle.edit_planner.specs.Cells.{Follow, Unmet, parts_in, told_row};
+ghost use Rattle.edit_planner.specs.Row.{changed_row, count_row, edited_at, first_new, is_whole as holds_whole, new_whole};
+ghost use Rattle.edit_planner.specs.declared.cells.CellAt.{CellAt};
+
+use crate::cells::{CellAt, Content, is_whole, put_cell, spell_chunk};
+use part_tree::{Bytes, FourCc, NoMemory, Value};
+use std::alloc::Global;
+
+// What is to stand where the chunk of an identifier stood: the chunk of the value for the first one, if there is a value, and
+// nothing for any other.
+fn whole_content(
+    alloc: Global,
+    word: FourCc,
+    value: &Option<Value>,
+    first: bool,
+) -> Result<Content, NoMemory>
+    requires whole { one_of whole_ids word.0 ≡ true }
+    requires small { IfSome value.now (λ v. length v.raw < 2 ^ 32) }
+    ensures { (now : List Chunk) → now ≡ (if first then new_whole word.0 value.now else []) → IfOk result (λ content. content ≡ Content.Edited (spell_all now) (parts_in now)) }
+{
+    let Some(value) = value else {
+        return Ok(Content::Edited {
+            now: Bytes::new(alloc, &[])?,
+            parts: 0,
+        });
+    };
+    if !first {
+        return Ok(Content::Edited {
+            now: Bytes::new(alloc, &[])?,
+            parts: 0,
+        });
+    }
+    let now = spell_chunk(alloc, word, value.raw.as_slice())?;
+    Ok(Content::Edited { now, parts: 1 })
+}
+
+// Edits a cell where it is the field of an identifier as a whole. Gives how many there were up to this one.
+fn whole_at(
+    cell: &mut CellAt,
+    alloc: Global,
+    word: FourCc,
+    value: &Option<Value>,
+    count: usize,
+) -> Result<usize, NoMemory>
+    requires whole { one_of whole_ids word.0 ≡ true }
+    requires small { IfSome value.now (λ v. length v.raw < 2 ^ 32) }
+    requires few { count + 1 < 2 ^ 64 }
+    ensures cell { OnOk result (cell.new ≡ (if holds_whole word.0 cell.old.content then edited_at cell.old (first_new (new_whole word.0 value.now) count) else cell.old)) }
+    ensures count { IfOk result (λ n. n ≡ (if holds_whole word.0 cell.old.content then count + 1 else count)) }
+{
+    if !is_whole(cell, word) {
+        return Ok(count);
+    }
+    cell.content = whole_content(alloc, word, value, count == 0)?;
+    cell.lacks_pad = false;
+    Ok(count + 1)
+}
+
+// Edits all cells that are the field of an identifier as a whole. Gives how many there are.
+fn change_wholes(
+    cells: &mut Vec<CellAt>,
+    alloc: Global,
+    word: FourCc,
+    value: &Option<Value>,
+) -> Result<usize, NoMemory>
+    requires whole { one_of whole_ids word.0 ≡ true }
+    requires small { IfSome value.now (λ v. length v.raw < 2 ^ 32) }
+    ensures cells { OnOk result (cells.new.items ≡ changed_row (holds_whole word.0) (λ n x. edited_at x (first_new (new_whole word.0 value.now) n)) 0 cells.old.items) }
+    ensures count { IfOk result (λ n. n ≡ count_row (holds_whole word.0) cells.old.items) }
+{
+    let mut count = 0;
+    'cells: for i in 0..cells.len() {
+        count = whole_at(&mut cells[i], alloc, word, value, count)?;
+    }
+    Ok(count)
+}
+
+/// Sets or removes the field of an identifier as a whole, in a row of cells that begins at the byte `from`: the first chunk
+/// becomes the new one and the others go, or a new one stands behind all but padding.
+pub fn put_whole(
+    cells: &mut Vec<CellAt>,
+    alloc: Global,
+    from: u64,
+    word: FourCc,
+    value: &Option<Value>,
+) -> Result<(), NoMemory>
+    requires whole { one_of whole_ids word.0 ≡ true }
+    requires small { IfSome value.now (λ v. length v.raw < 2 ^ 32) }
+    ensures told { OnOk result ((xs : List Cell) → Unmet (is_field word.0) xs → cells.old.items ≡ told_row from xs
+        → cells.new.items ≡ told_row from (acted_cells (whole_by word.0 (Some value.now) (some_chunk (is_field word.0) (flat_map live xs))) xs)) }
+    ensures follow { OnOk result ((end : ℕ) → Follow from cells.old.items end → Follow from cells.new.items end) }
+{
+    let count = change_wholes(cells, alloc, word, value)?;
+    if count > 0 {
+        return Ok(());
+    }
+    let Some(value) = value else {
+        return Ok(());
+    };
+    let now = spell_chunk(alloc, word, value.raw.as_slice())?;
+    put_cell(cells, from, false, now, 1)
+}
