@@ -1,3 +1,4 @@
 pub mod Row
 pub mod Told
 pub mod WholeChunks
+pub mod Unmet

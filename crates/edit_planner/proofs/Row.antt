@@ -153,11 +153,11 @@ change_follows q g same n at (x ∷ xs) end h = go (q x.content) (λ m. change_f
     go false again = (h.0, h.1, h.2, again n)
 
 follow_end : (at : ℕ) (xs : List CellAt) (end : ℕ) → Follow at xs end → at ≤ end
-follow_end at [] end h = h
+follow_end at [] end h = omega arith
 follow_end at (x ∷ xs) end h = omega arith
 
 pub put_follows : (b : Bool) (now : List ℕ) (parts at : ℕ) (xs : List CellAt) (end : ℕ) → Follow at xs end → Follow at (put_new b (new_at now parts) at xs) end
-put_follows b now parts at [] end h = (refl, omega arith, h, h)
+put_follows b now parts at [] end h = (refl, omega arith, omega arith, h)
 put_follows b now parts at (x ∷ xs) end h = go (stops b x xs) (put_follows b now parts x.next xs end h.3)
   where
     go : (t : Bool) → Follow x.next (put_new b (new_at now parts) x.next xs) end → Follow at (if t then new_at now parts at ∷ (x ∷ xs) else x ∷ put_new b (new_at now parts) x.next xs) end

@@ -20,10 +20,11 @@ use Rattle.wave_model.specs.Why.{is_data}
 use Rattle.wave_model.proofs.Values.{eq_sym}
 use Rattle.wave_file.specs.Map.{is_field as is_whole_field, role_of, at_front}
 use Rattle.wave_file.proofs.Roles.{list_holds, whole_holds, bext_holds}
+use Rattle.unit_plan.specs.Shapes.{parts_in}
 use Rattle.edit_planner.specs.declared.cells.CellAt.{CellAt}
 use Rattle.edit_planner.specs.declared.cells.Content.{Content}
 use Rattle.edit_planner.specs.declared.cells.Content.TheVariants.{Kept, Body, Listed, Gap, Edited}
-use Rattle.edit_planner.specs.Cells.{content_of, list_in, parts_in, told, told_row, Unmet}
+use Rattle.edit_planner.specs.Cells.{content_of, list_in, part_count, told, told_row, Unmet}
 use Rattle.edit_planner.specs.Row.{is_gap, is_body, is_list, is_format, is_whole, is_field as names_whole, all_gaps, changed_row, count_row, edited_at, new_at, stops, put_new}
 
 -- ---- what the tests see of a chunk
@@ -168,7 +169,7 @@ settled p f q g h n at (kept c ∷ xs) u = go (p c) refl (λ m to. settled p f q
         rw (one, again n (at + length (spell_all (c ∷ [])))) refl
 settled p f q g h n at (gap c ∷ xs) u = rw (h.gaps, settled p f q g h n (at + length (spell_all (c ∷ []))) xs u) refl
 settled p f q g h n at (edited old now ∷ xs) u =
-    rw (h.news (spell_all now) (parts_in now), settle_none p f n now u.0, count_none p n now u.0, settled p f q g h n (at + length (spell_all old)) xs u.1) refl
+    rw (h.news (spell_all now) (parts_in part_count now), settle_none p f n now u.0, count_none p n now u.0, settled p f q g h n (at + length (spell_all old)) xs u.1) refl
 
 -- whether some chunk meets the test
 any_append : (p : Chunk → Bool) (a b : List Chunk) → AllByRecursion (λ c. p c ≡ false) a → list_any p (a ++ b) ≡ list_any p b
@@ -189,7 +190,7 @@ some_told p f q g h at (kept c ∷ xs) u = go (p c) refl (some_told p f q g h (a
         let one : q (content_of at c) ≡ false = h.met at c ∙ e in
         rw one again
 some_told p f q g h at (gap c ∷ xs) u = rw h.gaps (some_told p f q g h (at + length (spell_all (c ∷ []))) xs u)
-some_told p f q g h at (edited old now ∷ xs) u = rw (h.news (spell_all now) (parts_in now)) (any_append p now (flat_map live xs) u.0 ∙ some_told p f q g h (at + length (spell_all old)) xs u.1)
+some_told p f q g h at (edited old now ∷ xs) u = rw (h.news (spell_all now) (parts_in part_count now)) (any_append p now (flat_map live xs) u.0 ∙ some_told p f q g h (at + length (spell_all old)) xs u.1)
 
 pub none_changed : (q : Content → Bool) (g : ℕ → CellAt → CellAt) (n : ℕ) (xs : List CellAt) → count_row q xs ≡ 0 → changed_row q g n xs ≡ xs
 none_changed q g n [] e = refl
@@ -206,7 +207,7 @@ pub record Puts (s : Side) (t : Test) (b : Bool) : Type 0 where
   pub side : (c : Chunk) → meets t c ≡ true → s ≡ before
 
 abbrev pub fresh_at : Chunk → ℕ → CellAt
-fresh_at c at = new_at (spell_all (c ∷ [])) (parts_in (c ∷ [])) at
+fresh_at c at = new_at (spell_all (c ∷ [])) (parts_in part_count (c ∷ [])) at
 
 gaps_told : (at : ℕ) (xs : List Cell) → all_gaps (told_row at xs) ≡ only_gaps xs
 gaps_told at [] = refl
@@ -215,7 +216,7 @@ gaps_told at (gap c ∷ xs) = gaps_told (at + length (spell_all (c ∷ []))) xs
 gaps_told at (edited old now ∷ xs) = refl
 
 new_told : (at : ℕ) (c : Chunk) → told at (new_cell c) ≡ fresh_at c at
-new_told at c = let e : at + 0 ≡ at = omega arith in ap (λ (n : ℕ). record { at = at; next = n; lacks_pad = false; content = Edited (spell_all (c ∷ [])) (parts_in (c ∷ [])) }) e
+new_told at c = let e : at + 0 ≡ at = omega arith in ap (λ (n : ℕ). record { at = at; next = n; lacks_pad = false; content = Edited (spell_all (c ∷ [])) (parts_in part_count (c ∷ [])) }) e
 
 -- a new cell before a row
 before_row : (at : ℕ) (c : Chunk) (xs : List Cell) → told_row at (new_cell c ∷ xs) ≡ fresh_at c at ∷ told_row at xs

@@ -1,9 +1,9 @@
 -- The fields that are whole chunks, in a row of cells.
-use Rattle.std.proofs.Common.{◌≡◌, ◌∙◌, ◌<◌, ℕ, zero, suc, ◌+◌, Bool, true, false, List, [], ◌∷◌, ◌++◌, length, refl, sym, ap, arith, subst}
-use Rattle.std.specs.Prelude.{Option, Some, None, if◌then◌else◌, ◌==◌, ◌&&◌, nat_lt, codes, take}
+use Rattle.std.proofs.Common.{◌≡◌, ◌∙◌, ◌<◌, ◌≤◌, ℕ, zero, suc, ◌+◌, ◌-◌, ◌^◌, take, map, get_or, Bool, true, false, List, [], ◌∷◌, ◌++◌, length, refl, sym, ap, arith, subst}
+use Rattle.std.specs.Prelude.{Option, Some, None, if◌then◌else◌, ◌==◌, ◌&&◌, nat_lt, codes, IfSome}
 use Rattle.std.specs.Str.{bytes_eq}
 use Rattle.std.specs.List.{flat_map}
-use Rattle.std.proofs.lemmas.List.{append-nil}
+use Rattle.std.proofs.lemmas.List.{append-nil, map-append, take_more}
 use Rattle.part_tree.specs.declared.field.Value.{Value}
 use Rattle.part_tree.specs.Names.{whole_ids}
 use Rattle.container_model.specs.Chunk.{Chunk, spell, spell_all}
@@ -11,10 +11,14 @@ use Rattle.container_model.specs.Units.{Cell, kept, live}
 use Rattle.carrier_model.specs.Cells.{Change, become, changed_cell, settle_cells, behind, never, meets, acted_cells}
 use Rattle.carrier_model.specs.Info.{one_of, made}
 use Rattle.wave_model.specs.Fields.{is_whole as is_field}
-use Rattle.wave_model.specs.Carry.{some_chunk, first_becomes, whole_by}
+use Rattle.field_model.specs.Update.{RawItem}
+use Rattle.bext_fields.specs.declared.change.RawChange.{RawChange}
+use Rattle.bext_fields.specs.Change.{raw_item_of, raw_items_of}
+use Rattle.wave_model.specs.Carry.{some_chunk, first_becomes, names_whole, or_last, whole_by, whole_part}
+use Rattle.unit_plan.specs.Shapes.{parts_in}
 use Rattle.edit_planner.specs.declared.cells.CellAt.{CellAt}
 use Rattle.edit_planner.specs.declared.cells.Content.TheVariants.{Edited}
-use Rattle.edit_planner.specs.Cells.{Follow, parts_in, told, told_row, Unmet}
+use Rattle.edit_planner.specs.Cells.{AreSmall, IsSmall, Follow, part_count, told, told_row, Unmet}
 use Rattle.edit_planner.proofs.Row.{change_follows, put_follows}
 use Rattle.edit_planner.specs.Row.{is_whole, changed_row, count_row, edited_at, first_new, new_whole, new_at, put_new}
 use Rattle.edit_planner.proofs.Told.{Fits, Puts, settled, some_told, none_changed, inserted, whole_told, fresh_at}
@@ -34,7 +38,7 @@ whole_fits w v f = record {
     len at c = ap (λ (x : List ℕ). at + length x) (sym (append-nil (spell c)))
 
     same : (at n : ℕ) (c : Chunk) → edited_at (told at (kept c)) (first_new (new_whole w v) n) ≡ told at (changed_cell (first_becomes (new_whole w v) n c) c)
-    same at zero c = ap (λ (m : ℕ). record { at = at; next = m; lacks_pad = false; content = Edited (spell_all (new_whole w v)) (parts_in (new_whole w v)) }) (len at c)
+    same at zero c = ap (λ (m : ℕ). record { at = at; next = m; lacks_pad = false; content = Edited (spell_all (new_whole w v)) (parts_in part_count (new_whole w v)) }) (len at c)
     same at (suc n) c = rw (Rattle.std.proofs.Math.Dec.eqb-suc-zero n) (ap (λ (m : ℕ). record { at = at; next = m; lacks_pad = false; content = Edited [] 0 }) (len at c))
 
 last_puts : Puts behind never false
@@ -52,7 +56,7 @@ unmet_never (Rattle.container_model.specs.Units.edited old now ∷ xs) = (none n
 
 -- what is put last
 pub put_last : (c : Chunk) (from : ℕ) (xs : List Cell) (ys : List CellAt) → ys ≡ told_row from xs
-    → put_new false (new_at (spell_all (c ∷ [])) (parts_in (c ∷ []))) from ys ≡ told_row from (Rattle.carrier_model.specs.Cells.insert_cell behind never c xs)
+    → put_new false (new_at (spell_all (c ∷ [])) (parts_in part_count (c ∷ []))) from ys ≡ told_row from (Rattle.carrier_model.specs.Cells.insert_cell behind never c xs)
 put_last c from xs ys e = ap (put_new false (fresh_at c) from) e ∙ sym (inserted behind never false c last_puts from xs (unmet_never xs))
 
 -- the chunks of an identifier change where they are
@@ -95,8 +99,8 @@ new_behind w v from xs ys zs now f u e none c i =
         some_told (is_field w) (first_becomes (new_whole w (Some v))) (is_whole w) (λ n x. edited_at x (first_new (new_whole w (Some v)) n)) (whole_fits w (Some v) f) from xs u
         ∙ ap (λ (zs : List CellAt). nat_lt 0 (count_row (is_whole w) zs)) (sym e) ∙ ap (nat_lt 0) none
 
-    one : parts_in (made w v.raw ∷ []) ≡ 1
-    one = ap (λ (t : Bool). length ((if t then made w v.raw ∷ (Rattle.carrier_model.specs.Info.list_run (made w v.raw)).chunks else made w v.raw ∷ []) ++ [])) (no_list w f)
+    one : parts_in part_count (made w v.raw ∷ []) ≡ 1
+    one = ap (λ (t : Bool). length (if t then made w v.raw ∷ (Rattle.carrier_model.specs.Info.list_run (made w v.raw)).chunks else made w v.raw ∷ []) + 0) (no_list w f)
       where
         no_list : (w : List ℕ) → one_of whole_ids w ≡ true → Rattle.wave_model.specs.Fields.is_info (made w v.raw) ≡ false
         no_list w f = go (bytes_eq w (codes "LIST")) refl
@@ -122,3 +126,47 @@ wholes_follow w v from ys zs end e h = subst (λ (xs : List CellAt). Follow from
 
 pub new_follows : (now : List ℕ) (parts from : ℕ) (ys zs : List CellAt) (end : ℕ) → zs ≡ put_new false (new_at now parts) from ys → Follow from ys end → Follow from zs end
 new_follows now parts from ys zs end e h = subst (λ (xs : List CellAt). Follow from xs end) (sym e) (put_follows false now parts from ys end h)
+
+-- ---- the last change of a field
+
+or_none : (x : Option (Option Value)) → or_last None x ≡ x
+or_none None = refl
+or_none (Some v) = refl
+
+or_last_assoc : (x y z : Option (Option Value)) → or_last x (or_last y z) ≡ or_last (or_last x y) z
+or_last_assoc x y None = refl
+or_last_assoc x y (Some v) = refl
+
+whole_more : (w : List ℕ) (e f : List RawItem) → whole_part w (e ++ f) ≡ or_last (whole_part w e) (whole_part w f)
+whole_more w [] f = sym (or_none (whole_part w f))
+whole_more w (i ∷ e) f = ap (or_last (if names_whole w i.name then Some i.value else None)) (whole_more w e f) ∙ or_last_assoc (if names_whole w i.name then Some i.value else None) (whole_part w e) (whole_part w f)
+
+whole_at : (w : List ℕ) (cs : List RawChange) (k : ℕ) (x : RawChange) → 0 < k → k ≤ length cs → x ≡ get_or cs (k - 1) x
+    → whole_part w (raw_items_of (take k cs)) ≡ or_last (whole_part w (raw_items_of (take (k - 1) cs))) (if names_whole w x.name then Some x.value else None)
+whole_at w cs k x pos le here =
+    let next : k ≡ (k - 1) + 1 = omega arith in
+    ap (λ (n : ℕ). whole_part w (raw_items_of (take n cs))) next
+    ∙ ap (λ (ys : List RawChange). whole_part w (raw_items_of ys)) (take_more cs (k - 1) x (omega arith) ∙ ap (λ (y : RawChange). take (k - 1) cs ++ y ∷ []) (sym here))
+    ∙ ap (whole_part w) (map-append raw_item_of (take (k - 1) cs) (x ∷ []))
+    ∙ whole_more w (raw_items_of (take (k - 1) cs)) (raw_items_of (x ∷ []))
+    ∙ ap (or_last (whole_part w (raw_items_of (take (k - 1) cs)))) (or_itself (if names_whole w x.name then Some x.value else None))
+  where
+    or_itself : (y : Option (Option Value)) → or_last y None ≡ y
+    or_itself y = refl
+
+pub last_named : (w : List ℕ) (cs : List RawChange) (k : ℕ) (x : RawChange) → 0 < k → k ≤ length cs → x ≡ get_or cs (k - 1) x → names_whole w x.name ≡ true
+    → whole_part w (raw_items_of (take k cs)) ≡ whole_part w (raw_items_of cs) → whole_part w (raw_items_of cs) ≡ Some x.value
+last_named w cs k x pos le here e left = sym left ∙ whole_at w cs k x pos le here ∙ ap (λ (t : Bool). or_last (whole_part w (raw_items_of (take (k - 1) cs))) (if t then Some x.value else None)) e
+
+pub none_named : (w : List ℕ) (cs : List RawChange) (k : ℕ) (x : RawChange) → 0 < k → k ≤ length cs → x ≡ get_or cs (k - 1) x → names_whole w x.name ≡ false
+    → whole_part w (raw_items_of (take k cs)) ≡ whole_part w (raw_items_of cs) → whole_part w (raw_items_of (take (k - 1) cs)) ≡ whole_part w (raw_items_of cs)
+none_named w cs k x pos le here e left = sym (ap (λ (t : Bool). or_last (whole_part w (raw_items_of (take (k - 1) cs))) (if t then Some x.value else None)) e) ∙ sym (whole_at w cs k x pos le here) ∙ left
+
+pub small_at : (cs : List RawChange) (k : ℕ) (x d : RawChange) → AreSmall cs → k < length cs → x ≡ get_or cs k d → IfSome x.value (λ v. length v.raw < 2 ^ 32)
+small_at [] k x d h lt e = absurd (omega arith)
+small_at (c ∷ cs) zero x d h lt e = rw e (small_as c.value h.0)
+  where
+    small_as : (o : Option Value) → IsSmall o → IfSome o (λ v. length v.raw < 2 ^ 32)
+    small_as None h = tt
+    small_as (Some v) h = h
+small_at (c ∷ cs) (suc k) x d h lt e = small_at cs k x d h.1 (omega arith) e

@@ -1,16 +1,18 @@
 -- The cells of a form as a planner holds them: by their places, and by what an edit reads of them (this project's own).
-use Rattle.std.specs.Prelude.{◌≡◌, ◌≤◌, ℕ, ◌+◌, ◌==◌, List, [], ◌∷◌, length, map, Bool, true, false, ◌&&◌, not, if◌then◌else◌}
-use Rattle.std.specs.List.{flat_map, AllByRecursion}
+use Rattle.std.specs.Prelude.{◌≡◌, ◌≤◌, ℕ, ◌+◌, ◌^◌, ◌<◌, List, [], ◌∷◌, length, map, Bool, true, false, if◌then◌else◌, Option, Some, None}
+use Rattle.std.specs.List.{AllByRecursion}
 use Rattle.part_tree.specs.Letters.{four}
-use Rattle.part_tree.specs.declared.part.Role.{Role}
+use Rattle.part_tree.specs.declared.field.Value.{Value}
 use Rattle.container_model.specs.Chunk.{Chunk, spell, spell_all}
 use Rattle.container_model.specs.Units.{Cell, kept, gap, edited, was, lacks_pad}
 use Rattle.carrier_model.specs.Info.{list_run}
 use Rattle.info_list.specs.Info.{item_of}
 use Rattle.info_list.specs.declared.InfoList.{InfoList}
-use Rattle.wave_model.specs.Fields.{is_bext, is_info}
+use Rattle.bext_fields.specs.declared.change.RawChange.{RawChange}
+use Rattle.wave_model.specs.Fields.{is_bext, is_info, is_whole}
 use Rattle.wave_model.specs.Edited.{parts_of}
 use Rattle.wave_file.specs.Map.{role_of, at_front}
+use Rattle.unit_plan.specs.Shapes.{parts_in}
 use Rattle.edit_planner.specs.declared.cells.CellAt.{CellAt}
 use Rattle.edit_planner.specs.declared.cells.Content.{Content}
 use Rattle.edit_planner.specs.declared.cells.Content.TheVariants.{Kept, Body, Listed, Gap, Edited}
@@ -28,15 +30,15 @@ content_of at c =
     else (if is_bext c then Body c.body
     else Kept (four c.id) (at_front at (role_of c)))
 
--- how many parts some chunks count for
-abbrev pub parts_in : List Chunk → ℕ
-parts_in cs = length (flat_map parts_of cs)
+-- how many parts a chunk counts for: a list and its items, and any other one alone
+abbrev pub part_count : Chunk → ℕ
+part_count c = length (parts_of c)
 
 -- a cell at a place of the file
 abbrev pub told : ℕ → Cell → CellAt
 told at (kept c) = record { at = at; next = at + length (spell c); lacks_pad = lacks_pad c; content = content_of at c }
 told at (gap c) = record { at = at; next = at + length (spell c); lacks_pad = lacks_pad c; content = Gap }
-told at (edited old now) = record { at = at; next = at + length (spell_all old); lacks_pad = false; content = Edited (spell_all now) (parts_in now) }
+told at (edited old now) = record { at = at; next = at + length (spell_all old); lacks_pad = false; content = Edited (spell_all now) (parts_in part_count now) }
 
 -- cells that follow each other from a place on
 abbrev pub told_row : ℕ → List Cell → List CellAt
@@ -52,9 +54,23 @@ Unmet p (kept c ∷ xs) = Unmet p xs
 Unmet p (gap c ∷ xs) = Unmet p xs
 Unmet p (edited old now ∷ xs) = AllByRecursion (λ c. p c ≡ false) now × Unmet p xs
 
+-- no field that is a whole chunk
+abbrev pub NoWholes : List Cell → Type 0
+NoWholes xs = (w : List ℕ) → Unmet (is_whole w) xs
+
+-- ---- what is asked of changes
+
+-- values that sizes of 32 bits can tell
+abbrev pub IsSmall : Option Value → Type 0
+IsSmall None = Unit {0}
+IsSmall (Some v) = length v.raw < 2 ^ 32
+
+abbrev pub AreSmall : List RawChange → Type 0
+AreSmall changes = AllByRecursion (λ c. IsSmall c.value) changes
+
 -- ---- whatever the file
 
 -- the cells follow each other from a place up to an end
 abbrev pub Follow : ℕ → List CellAt → ℕ → Type 0
-Follow at [] end = at ≤ end
+Follow at [] end = at ≡ end
 Follow at (x ∷ xs) end = (x.at ≡ at) × (x.at ≤ x.next) × (x.next ≤ end) × Follow x.next xs end

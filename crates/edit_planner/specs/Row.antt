@@ -9,7 +9,8 @@ use Rattle.carrier_model.specs.Info.{made}
 use Rattle.edit_planner.specs.declared.cells.CellAt.{CellAt}
 use Rattle.edit_planner.specs.declared.cells.Content.{Content}
 use Rattle.edit_planner.specs.declared.cells.Content.TheVariants.{Kept, Body, Listed, Gap, Edited}
-use Rattle.edit_planner.specs.Cells.{parts_in}
+use Rattle.unit_plan.specs.Shapes.{parts_in}
+use Rattle.edit_planner.specs.Cells.{part_count}
 
 -- ---- what a cell holds
 
@@ -77,7 +78,7 @@ count_row q (x ∷ xs) = if q x.content then count_row q xs + 1 else count_row q
 
 -- these chunks are to stand in a cell
 abbrev pub edited_at : CellAt → List Chunk → CellAt
-edited_at x now = record { at = x.at; next = x.next; lacks_pad = false; content = Edited (spell_all now) (parts_in now) }
+edited_at x now = record { at = x.at; next = x.next; lacks_pad = false; content = Edited (spell_all now) (parts_in part_count now) }
 
 -- ---- a new cell
 

@@ -1,5 +1,5 @@
 // Chunks that are fields as a whole: `axml`, `iXML`, `_PMX` and `MD5 `.
-ghost use Rattle.std.specs.Prelude.{◌≡◌, ◌≤◌, ◌<◌, ◌+◌, ◌^◌, [], ℕ, List, IfOk, IfSome, OnOk, length, Bool, Some, true, if◌then◌else◌, ◌==◌, option_copied};
+ghost use Rattle.std.specs.Prelude.{◌≡◌, ◌≤◌, ◌<◌, ◌+◌, ◌^◌, [], ℕ, List, IfOk, IfSome, OnOk, length, Bool, Some, None, true, if◌then◌else◌, ◌==◌, map};
 ghost use Rattle.std.specs.List.{flat_map};
 ghost use Rattle.part_tree.specs.declared.field.Value.{Value};
 ghost use Rattle.container_model.specs.Chunk.{Chunk, spell_all};
@@ -8,13 +8,16 @@ ghost use Rattle.carrier_model.specs.Cells.{acted_cells};
 ghost use Rattle.carrier_model.specs.Info.{one_of};
 ghost use Rattle.part_tree.specs.Names.{whole_ids};
 ghost use Rattle.wave_model.specs.Fields.{is_whole as is_field};
-ghost use Rattle.wave_model.specs.Carry.{some_chunk, whole_by};
-ghost use Rattle.edit_planner.specs.Cells.{Follow, Unmet, parts_in, told_row};
+ghost use Rattle.bext_fields.specs.Change.{raw_items_of};
+ghost use Rattle.wave_model.specs.Carry.{carried, names_whole, some_chunk, whole_act, whole_by};
+ghost use Rattle.unit_plan.specs.Shapes.{parts_in};
+ghost use Rattle.edit_planner.specs.Cells.{AreSmall, Follow, NoWholes, Unmet, part_count, told_row};
 ghost use Rattle.edit_planner.specs.Row.{changed_row, count_row, edited_at, first_new, is_whole as holds_whole, new_whole};
 ghost use Rattle.edit_planner.specs.declared.cells.CellAt.{CellAt};
 
 use crate::cells::{CellAt, Content, is_whole, put_cell, spell_chunk};
-use part_tree::{Bytes, FourCc, NoMemory, Value};
+use bext_fields::RawChange;
+use part_tree::{Bytes, FieldName, FourCc, NoMemory, Value};
 use std::alloc::Global;
 
 // What is to stand where the chunk of an identifier stood: the chunk of the value for the first one, if there is a value, and
@@ -27,7 +30,7 @@ fn whole_content(
 ) -> Result<Content, NoMemory>
     requires whole { one_of whole_ids word.0 ≡ true }
     requires small { IfSome value.now (λ v. length v.raw < 2 ^ 32) }
-    ensures { (now : List Chunk) → now ≡ (if first then new_whole word.0 value.now else []) → IfOk result (λ content. content ≡ Content.Edited (spell_all now) (parts_in now)) }
+    ensures { (now : List Chunk) → now ≡ (if first then new_whole word.0 value.now else []) → IfOk result (λ content. content ≡ Content.Edited (spell_all now) (parts_in part_count now)) }
 {
     let Some(value) = value else {
         return Ok(Content::Edited {
@@ -110,4 +113,57 @@ pub fn put_whole(
     };
     let now = spell_chunk(alloc, word, value.raw.as_slice())?;
     put_cell(cells, from, false, now, 1)
+}
+
+// Whether a change is of the field of an identifier as a whole.
+fn is_of(change: &RawChange, word: FourCc) -> bool
+    ensures { result ≡ names_whole word.0 change.now.name }
+{
+    match &change.name {
+        FieldName::Whole(id) => id.is(&word.0),
+        _ => false,
+    }
+}
+
+// Sets or removes the field of an identifier as a whole, where a change is of it; the last one tells what becomes of it.
+fn edit_whole(
+    cells: &mut Vec<CellAt>,
+    alloc: Global,
+    from: u64,
+    word: FourCc,
+    changes: &[RawChange],
+) -> Result<(), NoMemory>
+    requires whole { one_of whole_ids word.0 ≡ true }
+    requires small { AreSmall changes.now }
+    ensures told { OnOk result ((xs : List Cell) → Unmet (is_field word.0) xs → cells.old.items ≡ told_row from xs
+        → cells.new.items ≡ told_row from (acted_cells (whole_act word.0 (raw_items_of changes.now) (flat_map live xs)) xs)) }
+    ensures follow { OnOk result ((end : ℕ) → Follow from cells.old.items end → Follow from cells.new.items end) }
+{
+    let mut k = changes.len();
+    'changes: while k > 0 {
+        let change = &changes[k - 1];
+        if is_of(change, word) {
+            return put_whole(cells, alloc, from, word, &change.value);
+        }
+        k -= 1;
+    }
+    Ok(())
+}
+
+/// Sets and removes the fields that are whole chunks, in a row of cells that begins at the byte `from`.
+pub fn edit_wholes(
+    cells: &mut Vec<CellAt>,
+    alloc: Global,
+    from: u64,
+    changes: &[RawChange],
+) -> Result<(), NoMemory>
+    requires small { AreSmall changes.now }
+    ensures told { OnOk result ((xs : List Cell) → NoWholes xs → cells.old.items ≡ told_row from xs
+        → cells.new.items ≡ told_row from (carried (map (λ w. whole_act w (raw_items_of changes.now)) whole_ids) xs)) }
+    ensures follow { OnOk result ((end : ℕ) → Follow from cells.old.items end → Follow from cells.new.items end) }
+{
+    edit_whole(cells, alloc, from, FourCc(*b"axml"), changes)?;
+    edit_whole(cells, alloc, from, FourCc(*b"iXML"), changes)?;
+    edit_whole(cells, alloc, from, FourCc(*b"_PMX"), changes)?;
+    edit_whole(cells, alloc, from, FourCc(*b"MD5 "), changes)
 }
