@@ -1,4 +1,5 @@
 pub mod Row
 pub mod Told
 pub mod WholeChunks
+pub mod BextChunk
 pub mod Unmet

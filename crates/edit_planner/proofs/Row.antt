@@ -163,3 +163,7 @@ put_follows b now parts at (x ∷ xs) end h = go (stops b x xs) (put_follows b n
     go : (t : Bool) → Follow x.next (put_new b (new_at now parts) x.next xs) end → Follow at (if t then new_at now parts at ∷ (x ∷ xs) else x ∷ put_new b (new_at now parts) x.next xs) end
     go true again = (refl, omega arith, follow_end at (x ∷ xs) end h, h)
     go false again = (h.0, h.1, h.2, again)
+
+pub count_few : (t : Bool) (n m i : ℕ) → m ≡ (if t then n + 1 else n) → n ≤ i → m ≤ i + 1
+count_few true n m i e h = omega arith
+count_few false n m i e h = omega arith

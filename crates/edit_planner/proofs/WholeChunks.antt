@@ -4,6 +4,8 @@ use Rattle.std.specs.Prelude.{Option, Some, None, if◌then◌else◌, ◌==◌,
 use Rattle.std.specs.Str.{bytes_eq}
 use Rattle.std.specs.List.{flat_map}
 use Rattle.std.proofs.lemmas.List.{append-nil, map-append, take_more}
+use Rattle.part_tree.specs.declared.field.FieldName.{FieldName}
+use Rattle.part_tree.specs.declared.field.FieldName.TheVariants.{Bext, Info, Whole, User}
 use Rattle.part_tree.specs.declared.field.Value.{Value}
 use Rattle.part_tree.specs.Names.{whole_ids}
 use Rattle.container_model.specs.Chunk.{Chunk, spell, spell_all}
@@ -18,7 +20,7 @@ use Rattle.wave_model.specs.Carry.{some_chunk, first_becomes, names_whole, or_la
 use Rattle.unit_plan.specs.Shapes.{parts_in}
 use Rattle.edit_planner.specs.declared.cells.CellAt.{CellAt}
 use Rattle.edit_planner.specs.declared.cells.Content.TheVariants.{Edited}
-use Rattle.edit_planner.specs.Cells.{AreSmall, IsSmall, Follow, part_count, told, told_row, Unmet}
+use Rattle.edit_planner.specs.Cells.{AreFine, IsFine, Follow, part_count, told, told_row, Unmet}
 use Rattle.edit_planner.proofs.Row.{change_follows, put_follows}
 use Rattle.edit_planner.specs.Row.{is_whole, changed_row, count_row, edited_at, first_new, new_whole, new_at, put_new}
 use Rattle.edit_planner.proofs.Told.{Fits, Puts, settled, some_told, none_changed, inserted, whole_told, fresh_at}
@@ -162,11 +164,14 @@ pub none_named : (w : List ℕ) (cs : List RawChange) (k : ℕ) (x : RawChange) 
     → whole_part w (raw_items_of (take k cs)) ≡ whole_part w (raw_items_of cs) → whole_part w (raw_items_of (take (k - 1) cs)) ≡ whole_part w (raw_items_of cs)
 none_named w cs k x pos le here e left = sym (ap (λ (t : Bool). or_last (whole_part w (raw_items_of (take (k - 1) cs))) (if t then Some x.value else None)) e) ∙ sym (whole_at w cs k x pos le here) ∙ left
 
-pub small_at : (cs : List RawChange) (k : ℕ) (x d : RawChange) → AreSmall cs → k < length cs → x ≡ get_or cs k d → IfSome x.value (λ v. length v.raw < 2 ^ 32)
-small_at [] k x d h lt e = absurd (omega arith)
-small_at (c ∷ cs) zero x d h lt e = rw e (small_as c.value h.0)
+pub small_at : (w : List ℕ) (cs : List RawChange) (k : ℕ) (x d : RawChange) → AreFine cs → k < length cs → x ≡ get_or cs k d → names_whole w x.name ≡ true → IfSome x.value (λ v. length v.raw < 2 ^ 32)
+small_at w [] k x d h lt e n = absurd (omega arith)
+small_at w (c ∷ cs) zero x d h lt e n = rw e (small_as c.name c.value h.0 (ap (λ (y : RawChange). names_whole w y.name) (sym e) ∙ n))
   where
-    small_as : (o : Option Value) → IsSmall o → IfSome o (λ v. length v.raw < 2 ^ 32)
-    small_as None h = tt
-    small_as (Some v) h = h
-small_at (c ∷ cs) (suc k) x d h lt e = small_at cs k x d h.1 (omega arith) e
+    small_as : (name : FieldName) (o : Option Value) → IsFine name o → names_whole w name ≡ true → IfSome o (λ v. length v.raw < 2 ^ 32)
+    small_as name None h n = tt
+    small_as (Bext field) (Some v) h n = absurd cc
+    small_as (Info id) (Some v) h n = absurd cc
+    small_as (Whole id) (Some v) h n = omega (arith, h.1)
+    small_as (User id) (Some v) h n = absurd cc
+small_at w (c ∷ cs) (suc k) x d h lt e n = small_at w cs k x d h.1 (omega arith) e n

@@ -2,7 +2,11 @@
 use Rattle.std.specs.Prelude.{◌≡◌, ◌≤◌, ℕ, ◌+◌, ◌^◌, ◌<◌, List, [], ◌∷◌, length, map, Bool, true, false, if◌then◌else◌, Option, Some, None}
 use Rattle.std.specs.List.{AllByRecursion}
 use Rattle.part_tree.specs.Letters.{four}
+use Rattle.part_tree.specs.declared.field.FieldName.{FieldName}
+use Rattle.part_tree.specs.declared.field.FieldName.TheVariants as name
 use Rattle.part_tree.specs.declared.field.Value.{Value}
+use Rattle.part_tree.specs.Names.{bext_row}
+use Rattle.field_model.specs.Body.{FillsRange}
 use Rattle.container_model.specs.Chunk.{Chunk, spell, spell_all}
 use Rattle.container_model.specs.Units.{Cell, kept, gap, edited, was, lacks_pad}
 use Rattle.carrier_model.specs.Info.{list_run}
@@ -58,15 +62,41 @@ Unmet p (edited old now ∷ xs) = AllByRecursion (λ c. p c ≡ false) now × Un
 abbrev pub NoWholes : List Cell → Type 0
 NoWholes xs = (w : List ℕ) → Unmet (is_whole w) xs
 
+-- nothing is edited
+abbrev pub Unedited : List Cell → Type 0
+Unedited [] = Unit {0}
+Unedited (kept c ∷ xs) = Unedited xs
+Unedited (gap c ∷ xs) = Unedited xs
+Unedited (edited old now ∷ xs) = ⊥
+
 -- ---- what is asked of changes
 
--- values that sizes of 32 bits can tell
-abbrev pub IsSmall : Option Value → Type 0
-IsSmall None = Unit {0}
-IsSmall (Some v) = length v.raw < 2 ^ 32
+-- What a field can have: of `bext` bytes that fill its range, and of a coding history at most 1 MiB; of a whole chunk at most 16 MiB.
+abbrev pub IsFine : FieldName → Option Value → Type 0
+IsFine (name.Bext field) None = ⊥
+IsFine (name.Bext field) (Some v) = (v.lang ≡ 0) × FillsRange field v.raw × (bext_row field ≡ 14 → length v.raw ≤ 2 ^ 20)
+IsFine (name.Info id) None = Unit {0}
+IsFine (name.Info id) (Some v) = v.lang ≡ 0
+IsFine (name.Whole id) None = Unit {0}
+IsFine (name.Whole id) (Some v) = (v.lang ≡ 0) × (length v.raw ≤ 2 ^ 24)
+IsFine (name.User id) value = ⊥
 
-abbrev pub AreSmall : List RawChange → Type 0
-AreSmall changes = AllByRecursion (λ c. IsSmall c.value) changes
+abbrev pub AreFine : List RawChange → Type 0
+AreFine changes = AllByRecursion (λ c. IsFine c.name c.value) changes
+
+-- ---- what is asked of cells
+
+-- A body of `bext` has at least 602 bytes and at most 16 MiB; items of a list have identifiers of four bytes, and what is behind
+-- them is shorter than a header.
+abbrev pub IsReadable : Content → Type 0
+IsReadable (Body body) = (602 ≤ length body) × (length body ≤ 2 ^ 24)
+IsReadable (Listed list) = AllByRecursion (λ i. length i.id.0 ≡ 4) list.items × (length list.rest < 8)
+IsReadable (Kept id role) = Unit {0}
+IsReadable Gap = Unit {0}
+IsReadable (Edited now parts) = Unit {0}
+
+abbrev pub AreReadable : List CellAt → Type 0
+AreReadable xs = AllByRecursion (λ x. IsReadable x.content) xs
 
 -- ---- whatever the file
 

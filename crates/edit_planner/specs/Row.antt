@@ -4,6 +4,8 @@ use Rattle.std.specs.Str.{bytes_eq}
 use Rattle.part_tree.specs.declared.part.Role.{Role}
 use Rattle.part_tree.specs.declared.part.Role.TheVariants.{Whole}
 use Rattle.part_tree.specs.declared.field.Value.{Value}
+use Rattle.field_model.specs.Body.{edited_bext}
+use Rattle.field_model.specs.Update.{RawItem}
 use Rattle.container_model.specs.Chunk.{Chunk, spell_all}
 use Rattle.carrier_model.specs.Info.{made}
 use Rattle.edit_planner.specs.declared.cells.CellAt.{CellAt}
@@ -120,3 +122,17 @@ new_whole w (Some v) = made w v.raw ∷ []
 -- the first one is replaced, and the others are taken away
 abbrev pub first_new : List Chunk → ℕ → List Chunk
 first_new new n = if n == 0 then new else []
+
+-- ---- `bext`
+
+-- the body that a cell holds
+abbrev pub body_of : Content → List ℕ
+body_of (Body body) = body
+body_of Gap = []
+body_of (Kept id role) = []
+body_of (Listed list) = []
+body_of (Edited now parts) = []
+
+-- the chunk with an edit
+abbrev pub body_edited : List RawItem → CellAt → CellAt
+body_edited e x = edited_at x (made (codes "bext") (edited_bext e (body_of x.content)) ∷ [])

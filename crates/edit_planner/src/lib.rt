@@ -2,6 +2,7 @@
 //! It knows the kinds of files that are edited, and no device.
 #![tactic(auto)]
 
+mod bext;
 mod cells;
 mod wholes;
 

@@ -11,7 +11,7 @@ ghost use Rattle.wave_model.specs.Fields.{is_whole as is_field};
 ghost use Rattle.bext_fields.specs.Change.{raw_items_of};
 ghost use Rattle.wave_model.specs.Carry.{carried, names_whole, some_chunk, whole_act, whole_by};
 ghost use Rattle.unit_plan.specs.Shapes.{parts_in};
-ghost use Rattle.edit_planner.specs.Cells.{AreSmall, Follow, NoWholes, Unmet, part_count, told_row};
+ghost use Rattle.edit_planner.specs.Cells.{AreFine, Follow, NoWholes, Unmet, part_count, told_row};
 ghost use Rattle.edit_planner.specs.Row.{changed_row, count_row, edited_at, first_new, is_whole as holds_whole, new_whole};
 ghost use Rattle.edit_planner.specs.declared.cells.CellAt.{CellAt};
 
@@ -134,7 +134,7 @@ fn edit_whole(
     changes: &[RawChange],
 ) -> Result<(), NoMemory>
     requires whole { one_of whole_ids word.0 ≡ true }
-    requires small { AreSmall changes.now }
+    requires fine { AreFine changes.now }
     ensures told { OnOk result ((xs : List Cell) → Unmet (is_field word.0) xs → cells.old.items ≡ told_row from xs
         → cells.new.items ≡ told_row from (acted_cells (whole_act word.0 (raw_items_of changes.now) (flat_map live xs)) xs)) }
     ensures follow { OnOk result ((end : ℕ) → Follow from cells.old.items end → Follow from cells.new.items end) }
@@ -157,7 +157,7 @@ pub fn edit_wholes(
     from: u64,
     changes: &[RawChange],
 ) -> Result<(), NoMemory>
-    requires small { AreSmall changes.now }
+    requires fine { AreFine changes.now }
     ensures told { OnOk result ((xs : List Cell) → NoWholes xs → cells.old.items ≡ told_row from xs
         → cells.new.items ≡ told_row from (carried (map (λ w. whole_act w (raw_items_of changes.now)) whole_ids) xs)) }
     ensures follow { OnOk result ((end : ℕ) → Follow from cells.old.items end → Follow from cells.new.items end) }
