@@ -4,6 +4,7 @@
 
 mod bext;
 mod cells;
+mod lists;
 mod wholes;
 
 pub use cells::{CellAt, Content};

@@ -1,0 +1,101 @@
+-- Lists of INFO items in a row of cells: where each changed field is at home, and what becomes of each list.
+use Rattle.std.specs.Prelude.{◌≡◌, ℕ, ◌+◌, ◌^◌, ◌<◌, ◌==◌, List, [], ◌∷◌, ◌++◌, length, map, Bool, true, false, ◌||◌, if◌then◌else◌, Option, Some, None, Result}
+use Rattle.std.specs.declared.result.Result.TheVariants.{Ok, Err}
+use Rattle.std.specs.List.{AllByRecursion}
+use Rattle.part_tree.specs.Letters.{four}
+use Rattle.part_tree.specs.Names.{info_ids}
+use Rattle.container_model.specs.Chunk.{Chunk}
+use Rattle.container_model.specs.Deep.{Token}
+use Rattle.container_model.specs.Items.{Item, has_mark, put_all}
+use Rattle.carrier_model.specs.Info.{info_items, list_of, one_of}
+use Rattle.carrier_model.specs.Large.{Size, limited, first_above}
+use Rattle.carrier_model.specs.Lists.{some_hold, first_holder}
+use Rattle.info_list.specs.Info.{chunks_of, tokens_of}
+use Rattle.info_list.specs.declared.InfoList.{InfoList}
+use Rattle.edit_planner.specs.declared.cells.CellAt.{CellAt}
+use Rattle.edit_planner.specs.declared.cells.Content.{Content}
+use Rattle.edit_planner.specs.declared.cells.Content.TheVariants.{Kept, Body, Listed, Gap, Edited}
+use Rattle.edit_planner.specs.declared.lists.Homed.{Homed}
+use Rattle.edit_planner.specs.declared.lists.ListsFault.{ListsFault}
+use Rattle.edit_planner.specs.declared.lists.ListsFault.TheVariants.{TooLarge, Memory}
+use Rattle.edit_planner.specs.Row.{edited_at}
+
+-- ---- where a field is at home
+
+-- the marks of a list's items
+abbrev pub marks_in : Content → List (List Token)
+marks_in (Listed list) = tokens_of list ∷ []
+marks_in Gap = []
+marks_in (Kept id role) = []
+marks_in (Body body) = []
+marks_in (Edited now parts) = []
+
+-- those of each list in a row
+abbrev pub all_marks : List CellAt → List (List Token)
+all_marks [] = []
+all_marks (x ∷ xs) = marks_in x.content ++ all_marks xs
+
+-- the number of the first list that has an item of a name, where they are counted from a number on; 0 where none has
+abbrev pub home_from : ℕ → List (List Token) → List ℕ → ℕ
+home_from n tss name = if some_hold name tss then n + first_holder name tss else 0
+
+-- the items of an edit, each with the number of the list where its field is at home
+abbrev pub homed_as : (List ℕ → ℕ) → Item (List ℕ) → Homed
+homed_as h i = record { id = four i.name; value = i.value; home = h i.name }
+
+abbrev pub homed_of : (List ℕ → ℕ) → List (Item (List ℕ)) → List Homed
+homed_of h e = map (homed_as h) e
+
+-- they are of INFO fields
+abbrev pub AreInfo : List Homed → Type 0
+AreInfo is = AllByRecursion (λ i. one_of info_ids i.id.0 ≡ true) is
+
+-- ---- what becomes of a list
+
+-- whether a list is edited: where a field has an item in it, or is at home there
+abbrev pub concerned : ℕ → List Token → List Homed → Bool
+concerned n ts [] = false
+concerned n ts (i ∷ is) = (has_mark i.id.0 ts || (i.home == n)) || concerned n ts is
+
+-- a field is set in the list where it is at home, and taken away from every other one
+abbrev pub part_as : ℕ → Homed → Item (List ℕ)
+part_as n i = record { name = i.id.0; value = if i.home == n then i.value else None }
+
+abbrev pub part_in : ℕ → List Homed → List (Item (List ℕ))
+part_in n is = map (part_as n) is
+
+-- the chunk of a list with changes
+abbrev pub changed_list : List (Item (List ℕ)) → InfoList → Chunk
+changed_list e list = list_of (put_all info_items e (chunks_of list)) list.rest
+
+-- a list by its number
+abbrev pub list_edited_by : List Homed → ℕ → CellAt → Content → CellAt
+list_edited_by is n x (Listed list) = if concerned n (tokens_of list) is then edited_at x (changed_list (part_in n is) list ∷ []) else x
+list_edited_by is n x Gap = x
+list_edited_by is n x (Kept id role) = x
+list_edited_by is n x (Body body) = x
+list_edited_by is n x (Edited now parts) = x
+
+abbrev pub list_edited : List Homed → ℕ → CellAt → CellAt
+list_edited is n x = list_edited_by is n x x.content
+
+-- ---- how long the lists become
+
+-- the length of a list that is edited
+abbrev pub size_in : List Homed → ℕ → Content → List Size
+size_in is n (Listed list) = if concerned n (tokens_of list) is then limited (2 ^ 24) (length (changed_list (part_in n is) list).body) ∷ [] else []
+size_in is n Gap = []
+size_in is n (Kept id role) = []
+size_in is n (Body body) = []
+size_in is n (Edited now parts) = []
+
+-- those of all lists, which are counted from a number on
+abbrev pub sizes_in : List Homed → ℕ → List CellAt → List Size
+sizes_in is n [] = []
+sizes_in is n (x ∷ xs) = size_in is n x.content ++ sizes_in is (if Rattle.edit_planner.specs.Row.is_list x.content then n + 1 else n) xs
+
+-- the first size that passes its limit is that of the refusal, and none does where there is none
+abbrev pub TellsLarge : {T : Type 0} → List Size → Result T ListsFault → Type 0
+TellsLarge ss (Ok x) = first_above ss ≡ None
+TellsLarge ss (Err (TooLarge size)) = first_above ss ≡ Some (limited (2 ^ 24) size)
+TellsLarge ss (Err Memory) = Unit {0}

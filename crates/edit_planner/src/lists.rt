@@ -1,0 +1,172 @@
+// Lists of INFO items.
+ghost use Rattle.std.specs.Prelude.{◌≡◌, ◌≤◌, ◌<◌, ◌+◌, ◌^◌, ◌++◌, ◌∷◌, [], ℕ, List, IfOk, OnOk, IfErr, length, Bool, true, None, if◌then◌else◌, option_map, ◌==◌};
+ghost use Rattle.std.specs.List.{flat_map, AllByRecursion};
+ghost use Rattle.container_model.specs.Chunk.{Chunk, spell_all};
+ghost use Rattle.container_model.specs.Units.{Cell, live};
+ghost use Rattle.container_model.specs.Deep.{Token};
+ghost use Rattle.container_model.specs.Items.{has_mark, put_all};
+ghost use Rattle.carrier_model.specs.Cells.{acted_cells, never};
+ghost use Rattle.carrier_model.specs.Info.{info, info_items, list_of};
+ghost use Rattle.carrier_model.specs.Large.{limited};
+ghost use Rattle.carrier_model.specs.Lists.{home, lists_act, some_hold};
+ghost use Rattle.bext_fields.specs.Change.{raw_items_of};
+ghost use Rattle.info_list.specs.Changes.{changes_of};
+ghost use Rattle.info_list.specs.Info.{chunks_of, tokens_of};
+ghost use Rattle.wave_model.specs.Fields.{is_info};
+ghost use Rattle.wave_model.specs.Carry.{info_item, info_part, raw};
+ghost use Rattle.unit_plan.specs.Shapes.{parts_in};
+ghost use Rattle.edit_planner.specs.Cells.{AreReadable, Follow, IsReadable, Unmet, part_count, told_row};
+ghost use Rattle.edit_planner.specs.Row.{changed_row, count_row, is_list as holds_list};
+ghost use Rattle.edit_planner.specs.Lists.{AreInfo, TellsLarge, all_marks, changed_list, concerned, home_from, homed_as, homed_of, list_edited, marks_in, part_in, size_in, sizes_in};
+ghost use Rattle.edit_planner.specs.declared.cells.CellAt.{CellAt};
+
+use crate::cells::{CellAt, Content, is_list, put_cell};
+use bext_fields::RawChange;
+use info_list::{InfoChange, InfoList, spell_info};
+use part_tree::{Bytes, FieldName, FourCc, NoMemory, Value};
+use std::alloc::Global;
+
+const MOST_BYTES: u64 = 16_777_216;
+
+/// A field of INFO, what becomes of it, and the number of the list where it is at home.
+#[derive(Debug, Drop)]
+pub struct Homed {
+    pub id: FourCc,
+    pub value: Option<Bytes>,
+    pub home: usize,
+}
+
+/// Why lists aren't edited.
+#[derive(Clone, Copy, Debug, PartialEq, Eq)]
+pub enum ListsFault {
+    /// The body of a list would have this many bytes, which are more than 16 MiB.
+    TooLarge { size: u64 },
+    Memory,
+}
+
+// Whether a cell is a list that has an item of a field.
+fn has_item(cell: &CellAt, id: &FourCc) -> bool
+    ensures { result ≡ some_hold id.now.0 (marks_in cell.now.content) }
+{
+    match &cell.content {
+        Content::Listed(list) => list.has_item(id),
+        _ => false,
+    }
+}
+
+// The number of the next list.
+fn next_number(cell: &CellAt, n: usize) -> usize
+    requires { n + 1 < 2 ^ 64 }
+    ensures { result ≡ (if holds_list cell.now.content then n + 1 else n) }
+{
+    if is_list(cell) { n + 1 } else { n }
+}
+
+// The number of the first list that has an item of a field. 0 where none has.
+fn home_of(cells: &[CellAt], id: &FourCc) -> usize
+    ensures { result ≡ home (all_marks cells.now) id.now.0 }
+{
+    let mut n = 0;
+    'cells: for cell in cells {
+        if has_item(cell, id) {
+            return n;
+        }
+        n = next_number(cell, n);
+    }
+    0
+}
+
+// The same bytes.
+fn raw_of(alloc: Global, value: &Option<Value>) -> Result<Option<Bytes>, NoMemory>
+    ensures { IfOk result (λ r. r ≡ option_map raw value.now) }
+{
+    let Some(value) = value else {
+        return Ok(None);
+    };
+    let bytes = Bytes::new(alloc, value.raw.as_slice())?;
+    Ok(Some(bytes))
+}
+
+// Appends a change where it is of a field of INFO.
+fn put_homed(
+    homed: &mut Vec<Homed>,
+    alloc: Global,
+    cells: &[CellAt],
+    change: &RawChange,
+) -> Result<(), NoMemory>
+    ensures { OnOk result (homed.new.items ≡ homed.old.items ++ homed_of (home (all_marks cells.now)) (info_item change.now.name change.now.value)) }
+{
+    let FieldName::Info(id) = &change.name else {
+        return Ok(());
+    };
+    if !change.name.is_field() {
+        return Ok(());
+    }
+    let value = raw_of(alloc, &change.value)?;
+    let home = home_of(cells, id);
+    match homed.push(Homed {
+        id: *id,
+        value,
+        home,
+    }) {
+        Err(_) => Err(NoMemory),
+        Ok(()) => Ok(()),
+    }
+}
+
+// The changes of fields of INFO.
+fn homed_changes(
+    alloc: Global,
+    cells: &[CellAt],
+    changes: &[RawChange],
+) -> Result<Vec<Homed>, NoMemory>
+    ensures { IfOk result (λ homed. homed.items ≡ homed_of (home (all_marks cells.now)) (info_part (raw_items_of changes.now))) }
+{
+    let mut homed = Vec::new(alloc);
+    'changes: for change in changes {
+        put_homed(&mut homed, alloc, cells, change)?;
+    }
+    Ok(homed)
+}
+
+// Whether the list of this number is edited.
+fn is_concerned(list: &InfoList, homed: &[Homed], n: usize) -> bool
+    ensures { result ≡ concerned n (tokens_of list.now) homed.now }
+{
+    'changes: for change in homed {
+        if list.has_item(&change.id) || change.home == n {
+            return true;
+        }
+    }
+    false
+}
+
+// The value that a field gets in the list of this number.
+fn value_in(alloc: Global, change: &Homed, n: usize) -> Result<Option<Bytes>, NoMemory>
+    ensures { IfOk result (λ value. value ≡ (if change.now.home == n then change.now.value else None)) }
+{
+    if change.home != n {
+        return Ok(None);
+    }
+    let Some(value) = &change.value else {
+        return Ok(None);
+    };
+    let bytes = Bytes::new(alloc, value.as_slice())?;
+    Ok(Some(bytes))
+}
+
+// The changes of the list of this number.
+fn part_for(alloc: Global, homed: &[Homed], n: usize) -> Result<Vec<InfoChange>, NoMemory>
+    ensures { IfOk result (λ part. changes_of part.items ≡ part_in n homed.now) }
+{
+    let mut part = Vec::new(alloc);
+    'changes: for change in homed {
+        let value = value_in(alloc, change, n)?;
+        let id = change.id;
+        match part.push(InfoChange { id, value }) {
+            Err(_) => return Err(NoMemory),
+            Ok(()) => {}
+        }
+    }
+    Ok(part)
+}
