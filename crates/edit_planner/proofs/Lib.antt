@@ -2,4 +2,5 @@ pub mod Row
 pub mod Told
 pub mod WholeChunks
 pub mod BextChunk
+pub mod InfoLists
 pub mod Unmet

@@ -1,5 +1,5 @@
 -- Lists of INFO items in a row of cells: where each changed field is at home, and what becomes of each list.
-use Rattle.std.specs.Prelude.{◌≡◌, ℕ, ◌+◌, ◌^◌, ◌<◌, ◌==◌, List, [], ◌∷◌, ◌++◌, length, map, Bool, true, false, ◌||◌, if◌then◌else◌, Option, Some, None, Result}
+use Rattle.std.specs.Prelude.{◌≡◌, ℕ, ◌+◌, ◌-◌, ◌^◌, ◌<◌, ◌==◌, List, [], ◌∷◌, ◌++◌, length, map, Bool, true, false, ◌||◌, if◌then◌else◌, Option, Some, None, Result}
 use Rattle.std.specs.declared.result.Result.TheVariants.{Ok, Err}
 use Rattle.std.specs.List.{AllByRecursion}
 use Rattle.part_tree.specs.Letters.{four}
@@ -18,7 +18,7 @@ use Rattle.edit_planner.specs.declared.cells.Content.TheVariants.{Kept, Body, Li
 use Rattle.edit_planner.specs.declared.lists.Homed.{Homed}
 use Rattle.edit_planner.specs.declared.lists.ListsFault.{ListsFault}
 use Rattle.edit_planner.specs.declared.lists.ListsFault.TheVariants.{TooLarge, Memory}
-use Rattle.edit_planner.specs.Row.{edited_at}
+use Rattle.edit_planner.specs.Row.{edited_at, is_list}
 
 -- ---- where a field is at home
 
@@ -92,10 +92,15 @@ size_in is n (Edited now parts) = []
 -- those of all lists, which are counted from a number on
 abbrev pub sizes_in : List Homed → ℕ → List CellAt → List Size
 sizes_in is n [] = []
-sizes_in is n (x ∷ xs) = size_in is n x.content ++ sizes_in is (if Rattle.edit_planner.specs.Row.is_list x.content then n + 1 else n) xs
+sizes_in is n (x ∷ xs) = size_in is n x.content ++ sizes_in is (if is_list x.content then n + 1 else n) xs
 
 -- the first size that passes its limit is that of the refusal, and none does where there is none
 abbrev pub TellsLarge : {T : Type 0} → List Size → Result T ListsFault → Type 0
 TellsLarge ss (Ok x) = first_above ss ≡ None
 TellsLarge ss (Err (TooLarge size)) = first_above ss ≡ Some (limited (2 ^ 24) size)
 TellsLarge ss (Err Memory) = Unit {0}
+
+-- a size that is too large is told, where 64 bits tell it
+abbrev pub IsLarge : ℕ → ListsFault → Type 0
+IsLarge size (TooLarge told) = (told ≡ size) × (size < 2 ^ 64 - 1)
+IsLarge size Memory = Unit {0}

@@ -17,7 +17,7 @@ ghost use Rattle.wave_model.specs.Carry.{info_item, info_part, raw};
 ghost use Rattle.unit_plan.specs.Shapes.{parts_in};
 ghost use Rattle.edit_planner.specs.Cells.{AreReadable, Follow, IsReadable, Unmet, part_count, told_row};
 ghost use Rattle.edit_planner.specs.Row.{changed_row, count_row, is_list as holds_list};
-ghost use Rattle.edit_planner.specs.Lists.{AreInfo, TellsLarge, all_marks, changed_list, concerned, home_from, homed_as, homed_of, list_edited, marks_in, part_in, size_in, sizes_in};
+ghost use Rattle.edit_planner.specs.Lists.{AreInfo, IsLarge, TellsLarge, all_marks, changed_list, concerned, home_from, homed_as, homed_of, list_edited, marks_in, part_in, size_in, sizes_in};
 ghost use Rattle.edit_planner.specs.declared.cells.CellAt.{CellAt};
 
 use crate::cells::{CellAt, Content, is_list, put_cell};
@@ -169,4 +169,109 @@ fn part_for(alloc: Global, homed: &[Homed], n: usize) -> Result<Vec<InfoChange>,
         }
     }
     Ok(part)
+}
+
+// A list that is too long; no memory holds one whose length 64 bits don't tell.
+fn too_large(size: u64) -> ListsFault
+    requires { 2 ^ 24 < size }
+    ensures { IsLarge size result }
+{
+    if size == u64::MAX {
+        ListsFault::Memory
+    } else {
+        ListsFault::TooLarge { size }
+    }
+}
+
+// The chunk of a list. `TooLarge` where its body passes 16 MiB.
+fn spelled_list(alloc: Global, list: &InfoList) -> Result<Content, ListsFault>
+    requires readable { IsReadable (Content.Listed list.now) }
+    ensures content { (c : Chunk) → c ≡ list_of (chunks_of list.now) list.now.rest → IfOk result (λ content. content ≡ Content.Edited (spell_all (c ∷ [])) (parts_in part_count (c ∷ []))) }
+    ensures large { (c : Chunk) → c ≡ list_of (chunks_of list.now) list.now.rest → TellsLarge (limited (2 ^ 24) (length c.body) ∷ []) result }
+{
+    let size = list.body_len();
+    if size > MOST_BYTES {
+        return Err(too_large(size));
+    }
+    let Some(parts) = (list.count() as u64).checked_add(1) else {
+        return Err(ListsFault::Memory);
+    };
+    match spell_info(alloc, list) {
+        Err(_) => Err(ListsFault::Memory),
+        Ok(now) => Ok(Content::Edited { now, parts }),
+    }
+}
+
+// Edits the list of a number. `TooLarge` where its body passes 16 MiB.
+fn edited_list(
+    list: &mut InfoList,
+    alloc: Global,
+    homed: &[Homed],
+    n: usize,
+) -> Result<Content, ListsFault>
+    requires readable { IsReadable (Content.Listed list.old) }
+    requires info { AreInfo homed.now }
+    ensures content { (c : Chunk) → c ≡ changed_list (part_in n homed.now) list.old → IfOk result (λ content. content ≡ Content.Edited (spell_all (c ∷ [])) (parts_in part_count (c ∷ []))) }
+    ensures large { TellsLarge (limited (2 ^ 24) (length (changed_list (part_in n homed.now) list.old).body) ∷ []) result }
+{
+    let part = match part_for(alloc, homed, n) {
+        Err(_) => return Err(ListsFault::Memory),
+        Ok(part) => part,
+    };
+    match list.put_all(alloc, &part) {
+        Err(_) => return Err(ListsFault::Memory),
+        Ok(()) => {}
+    }
+    spelled_list(alloc, list)
+}
+
+// Edits a cell where it is a list that the changes concern. Gives the number of the next list.
+fn list_at(
+    cell: &mut CellAt,
+    alloc: Global,
+    homed: &[Homed],
+    n: usize,
+) -> Result<usize, ListsFault>
+    requires readable { IsReadable cell.old.content }
+    requires info { AreInfo homed.now }
+    requires few { n + 1 < 2 ^ 64 }
+    ensures cell { OnOk result (cell.new ≡ (if holds_list cell.old.content then list_edited homed.now n cell.old else cell.old)) }
+    ensures count { IfOk result (λ m. m ≡ (if holds_list cell.old.content then n + 1 else n)) }
+    ensures large { TellsLarge (size_in homed.now n cell.old.content) result }
+{
+    let Content::Listed(list) = &mut cell.content else {
+        return Ok(n);
+    };
+    if !is_concerned(list, homed, n) {
+        return Ok(n + 1);
+    }
+    let content = match edited_list(list, alloc, homed, n) {
+        Err(fault) => return Err(fault),
+        Ok(content) => content,
+    };
+    cell.content = content;
+    cell.lacks_pad = false;
+    Ok(n + 1)
+}
+
+// Edits each list that the changes concern. Gives how many lists there are.
+fn change_lists(
+    cells: &mut Vec<CellAt>,
+    alloc: Global,
+    homed: &[Homed],
+) -> Result<usize, ListsFault>
+    requires readable { AreReadable cells.old.items }
+    requires info { AreInfo homed.now }
+    ensures cells { OnOk result (cells.new.items ≡ changed_row holds_list (λ n x. list_edited homed.now n x) 0 cells.old.items) }
+    ensures count { IfOk result (λ n. n ≡ count_row holds_list cells.old.items) }
+    ensures large { TellsLarge (sizes_in homed.now 0 cells.old.items) result }
+{
+    let mut count = 0;
+    'cells: for i in 0..cells.len() {
+        count = match list_at(&mut cells[i], alloc, homed, count) {
+            Err(fault) => return Err(fault),
+            Ok(next) => next,
+        };
+    }
+    Ok(count)
 }
