@@ -74,12 +74,12 @@ changed_readable q g s n (x ∷ xs) h = go (q x.content) (λ m. changed_readable
     go true again = (s n x h.0, again (n + 1))
     go false again = (h.0, again n)
 
-pub put_readable : (b : Bool) (now : List ℕ) (parts from : ℕ) (xs : List CellAt) → AreReadable xs → AreReadable (put_new b (new_at now parts) from xs)
-put_readable b now parts from [] h = (tt, tt)
-put_readable b now parts from (x ∷ xs) h = go (stops b x xs) (put_readable b now parts x.next xs h.1)
+pub put_readable : (b : Bool) (content : Content) → IsReadable content → (from : ℕ) (xs : List CellAt) → AreReadable xs → AreReadable (put_new b (new_at content) from xs)
+put_readable b content r from [] h = (r, tt)
+put_readable b content r from (x ∷ xs) h = go (stops b x xs) (put_readable b content r x.next xs h.1)
   where
-    go : (t : Bool) → AreReadable (put_new b (new_at now parts) x.next xs) → AreReadable (if t then new_at now parts from ∷ (x ∷ xs) else x ∷ put_new b (new_at now parts) x.next xs)
-    go true again = (tt, h)
+    go : (t : Bool) → AreReadable (put_new b (new_at content) x.next xs) → AreReadable (if t then new_at content from ∷ (x ∷ xs) else x ∷ put_new b (new_at content) x.next xs)
+    go true again = (r, h)
     go false again = (h.0, again)
 
 -- ---- nothing is edited
@@ -130,9 +130,9 @@ bodies_changed e from xs ys edits u is some =
 
 pub body_new : (e : List RawItem) (from : ℕ) (xs : List Cell) (ys zs : List CellAt) (now : List ℕ) → edits_bext e ≡ true → Unedited xs → ys ≡ told_row from xs → count_row is_body ys ≡ 0
     → zs ≡ changed_row is_body (λ n x. body_edited e x) 0 ys → now ≡ spell (made (codes "bext") (edited_bext e new_body))
-    → put_new true (new_at now 1) from zs ≡ told_row from (acted_cells (bext_act e (flat_map live xs)) xs)
+    → put_new true (new_at (Edited now 1)) from zs ≡ told_row from (acted_cells (bext_act e (flat_map live xs)) xs)
 body_new e from xs ys zs now edits u is none c i =
-    ap (λ (b : List ℕ). put_new true (new_at b 1) from zs) (i ∙ sym (append-nil (spell (made (codes "bext") (edited_bext e new_body)))))
+    ap (λ (b : List ℕ). put_new true (new_at (Edited b 1)) from zs) (i ∙ sym (append-nil (spell (made (codes "bext") (edited_bext e new_body)))))
     ∙ ap (put_new true (fresh_at (made (codes "bext") (edited_bext e new_body))) from) (c ∙ none_changed is_body (λ n x. body_edited e x) 0 ys none ∙ is)
     ∙ sym (inserted before is_format_chunk true (made (codes "bext") (edited_bext e new_body)) format_puts from xs (unedited_unmet (meets is_format_chunk) xs u))
     ∙ go (edits_bext e) (some_chunk is_bext (flat_map live xs)) edits
@@ -166,11 +166,11 @@ any_next cs i x d lt e = at_drop_more (λ (ys : List RawChange). edits_bext (raw
 pub any_end : (cs : List RawChange) (i : ℕ) → length cs ≤ i → edits_bext (raw_items_of (drop i cs)) ≡ false
 any_end cs i le = at_drop_all (λ (ys : List RawChange). edits_bext (raw_items_of ys)) cs i le
 
-pub put_follows_on : (b : Bool) (now : List ℕ) (parts from : ℕ) (ys zs : List CellAt) (end : ℕ) → zs ≡ put_new b (new_at now parts) from ys → Follow from ys end → Follow from zs end
-put_follows_on b now parts from ys zs end i h = subst (λ (xs : List CellAt). Follow from xs end) (sym i) (put_follows b now parts from ys end h)
+pub put_follows_on : (b : Bool) (content : Content) (from : ℕ) (ys zs : List CellAt) (end : ℕ) → zs ≡ put_new b (new_at content) from ys → Follow from ys end → Follow from zs end
+put_follows_on b content from ys zs end i h = subst (λ (xs : List CellAt). Follow from xs end) (sym i) (put_follows b content from ys end h)
 
-pub put_readable_on : (b : Bool) (now : List ℕ) (parts from : ℕ) (ys zs : List CellAt) → zs ≡ put_new b (new_at now parts) from ys → AreReadable ys → AreReadable zs
-put_readable_on b now parts from ys zs i h = subst AreReadable (sym i) (put_readable b now parts from ys h)
+pub put_readable_on : (b : Bool) (content : Content) → IsReadable content → (from : ℕ) (ys zs : List CellAt) → zs ≡ put_new b (new_at content) from ys → AreReadable ys → AreReadable zs
+put_readable_on b content r from ys zs i h = subst AreReadable (sym i) (put_readable b content r from ys h)
 
 -- ---- a cell
 

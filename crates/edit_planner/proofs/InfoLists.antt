@@ -1,12 +1,18 @@
 -- The lists of INFO items in a row of cells.
 use Rattle.std.proofs.Common.{◌≡◌, ◌∙◌, ◌<◌, ◌≤◌, ℕ, zero, suc, ◌+◌, ◌-◌, ◌^◌, drop, set, get_or, min, Bool, true, false, List, [], ◌∷◌, ◌++◌, length, map, refl, sym, ap, arith, subst, append_assoc}
-use Rattle.std.specs.Prelude.{Option, Some, None, if◌then◌else◌, nat_lt, codes, ◌||◌, ◌==◌, Result}
+use Rattle.std.specs.Prelude.{Option, Some, None, if◌then◌else◌, nat_lt, codes, ◌||◌, ◌==◌, Result, option_map}
 use Rattle.std.specs.declared.result.Result.TheVariants.{Ok, Err}
 use Rattle.std.specs.Str.{bytes_eq}
 use Rattle.std.specs.List.{flat_map, list_any, AllByRecursion}
 use Rattle.std.proofs.lemmas.List.{append-nil, length-map, at_drop_more, at_drop_all}
 use Rattle.std.proofs.lemmas.Bool.{lt-ltb, le-ltb}
 use Rattle.part_tree.specs.Letters.{four}
+use Rattle.part_tree.specs.declared.names.FourCc.{FourCc}
+use Rattle.part_tree.specs.declared.field.FieldName.{FieldName}
+use Rattle.part_tree.specs.declared.field.FieldName.TheVariants.{Bext, Info, Whole, User}
+use Rattle.part_tree.specs.declared.field.Value.{Value}
+use Rattle.field_model.specs.Update.{RawItem}
+use Rattle.wave_model.specs.Carry.{info_item, info_part, raw}
 use Rattle.part_tree.specs.Names.{info_ids}
 use Rattle.container_model.specs.Chunk.{Chunk, ends, spell, spell_all, Run}
 use Rattle.container_model.specs.Units.{Cell, kept, live}
@@ -35,7 +41,9 @@ use Rattle.edit_planner.specs.declared.lists.ListsFault.{ListsFault}
 use Rattle.edit_planner.specs.declared.lists.ListsFault.TheVariants.{TooLarge, Memory}
 use Rattle.edit_planner.specs.Cells.{AreReadable, IsReadable, Follow, Unmet, content_of, list_in, part_count, told, told_row}
 use Rattle.edit_planner.specs.Row.{is_list, changed_row, count_row, edited_at, new_at, put_new}
-use Rattle.edit_planner.specs.Lists.{AreInfo, IsLarge, TellsLarge, all_marks, changed_list, concerned, homed_of, list_edited, list_edited_by, marks_in, part_in, size_in, sizes_in}
+use Rattle.edit_planner.specs.Lists.{AreInfo, IsLarge, IsNewList, TellsLarge, all_marks, fresh_list, changed_list, concerned, homed_of, list_edited, list_edited_by, marks_in, part_in, size_in, sizes_in}
+use Rattle.edit_planner.proofs.Row.{change_follows}
+use Rattle.edit_planner.proofs.WholeChunks.{put_last}
 use Rattle.edit_planner.proofs.Told.{Fits, settled, some_told, none_changed, list_told}
 
 -- ---- the chunk of a list
@@ -134,3 +142,184 @@ list_now is n x list content e t h =
     ap (λ (y : Content). record { at = x.at; next = x.next; lacks_pad = false; content = y }) (h (changed_list (part_in n is) list) refl)
     ∙ ap (λ (u : Bool). if u then edited_at x (changed_list (part_in n is) list ∷ []) else x) (sym t)
     ∙ ap (λ (y : Content). if is_list y then list_edited_by is n x y else x) (sym e)
+
+-- ---- the lists of the model
+
+token_again : (cs : List Chunk) → ArePlain cs → map (item_token info_items) (map remade cs) ≡ map (item_token info_items) cs
+token_again [] h = refl
+token_again (c ∷ cs) h = rw (h.0.form_is, token_again cs h.1) refl
+
+marks_again : (c : Chunk) → tokens_of (list_in c) ≡ items_of info info_items c
+marks_again c = let cs = (list_run c).chunks in ap (map (item_token info_items)) (read_remade cs) ∙ token_again cs (plain_chunks (drop 4 c.body))
+
+remade_twice : (cs : List Chunk) → map remade (map remade cs) ≡ map remade cs
+remade_twice [] = refl
+remade_twice (c ∷ cs) = ap (λ (xs : List Chunk). remade c ∷ xs) (remade_twice cs)
+
+carrier_again : (e : List (Item (List ℕ))) (c : Chunk) → changed_list e (list_in c) ≡ edit_carrier info info_items e c
+carrier_again e c =
+    let cs = (list_run c).chunks in
+    of_items (put_all info_items e (map made_of (map item_of cs))) (put_all info_items e cs) (list_run c).left
+    (ap (λ (xs : List Chunk). map remade (put_all info_items e xs)) (read_remade cs) ∙ all_remade e (map remade cs) ∙ ap (put_all info_items e) (remade_twice cs) ∙ sym (all_remade e cs))
+
+same_concern : (h : List ℕ → ℕ) (n : ℕ) (ts : List Token) (e : List (Item (List ℕ))) → concerned n ts (homed_of h e) ≡ concerns h n ts e
+same_concern h n ts [] = refl
+same_concern h n ts (i ∷ e) = ap (λ (t : Bool). (has_mark i.name ts || (h i.name == n)) || t) (same_concern h n ts e)
+
+same_part : (h : List ℕ → ℕ) (n : ℕ) (e : List (Item (List ℕ))) → part_in n (homed_of h e) ≡ part_of h n e
+same_part h n [] = refl
+same_part h n (i ∷ e) = ap (λ (xs : List (Item (List ℕ))). record { name = i.name; value = if h i.name == n then i.value else None } ∷ xs) (same_part h n e)
+
+pub lists_fits : (h : List ℕ → ℕ) (e : List (Item (List ℕ))) → Fits is_info (edit_nth info info_items h e) is_list (λ n x. list_edited (homed_of h e) n x)
+lists_fits h e = record {
+  met = list_told;
+  gaps = refl;
+  news = λ now parts. refl;
+  same = λ at n c p. same at n c p;
+}
+  where
+    held : (at : ℕ) (c : Chunk) → is_info c ≡ true → content_of at c ≡ Listed (list_in c)
+    held at c p = rw p refl
+
+    same : (at n : ℕ) (c : Chunk) → is_info c ≡ true → list_edited (homed_of h e) n (told at (kept c)) ≡ told at (changed_cell (edit_nth info info_items h e n c) c)
+    same at n c p =
+        ap (list_edited_by (homed_of h e) n (told at (kept c))) (held at c p)
+        ∙ ap (λ (t : Bool). if t then edited_at (told at (kept c)) (changed_list (part_in n (homed_of h e)) (list_in c) ∷ []) else told at (kept c))
+        (ap (λ (ts : List Token). concerned n ts (homed_of h e)) (marks_again c) ∙ same_concern h n (items_of info info_items c) e)
+        ∙ ap (λ (d : Chunk). if concerns h n (items_of info info_items c) e then edited_at (told at (kept c)) (d ∷ []) else told at (kept c))
+        (ap (λ (f : List (Item (List ℕ))). changed_list f (list_in c)) (same_part h n e) ∙ carrier_again (part_of h n e) c)
+        ∙ go (concerns h n (items_of info info_items c) e)
+      where
+        new : Chunk
+        new = edit_carrier info info_items (part_of h n e) c
+
+        go : (t : Bool) → (if t then edited_at (told at (kept c)) (new ∷ []) else told at (kept c)) ≡ told at (changed_cell (if t then become (new ∷ []) else leave) c)
+        go true = ap (λ (x : List ℕ). record { at = at; next = at + length x; lacks_pad = false; content = Edited (spell_all (new ∷ [])) (parts_in part_count (new ∷ [])) }) (sym (append-nil (spell c)))
+        go false = refl
+
+-- where a field is at home
+all_past : (a b : List Chunk) → AllByRecursion (λ c. is_info c ≡ false) a → all_items info info_items (a ++ b) ≡ all_items info info_items b
+all_past [] b h = refl
+all_past (c ∷ a) b h = rw h.0 (all_past a b h.1)
+
+pub marks_told : (at : ℕ) (xs : List Cell) → Unmet is_info xs → all_marks (told_row at xs) ≡ all_items info info_items (flat_map live xs)
+marks_told at [] u = refl
+marks_told at (kept c ∷ xs) u = go (is_info c) (Rattle.wave_model.specs.Fields.is_bext c) refl (marks_told (at + length (spell_all (c ∷ []))) xs u)
+  where
+    rest : List CellAt
+    rest = told_row (at + length (spell_all (c ∷ []))) xs
+
+    go : (l b : Bool) → is_info c ≡ l → all_marks rest ≡ all_items info info_items (flat_map live xs)
+        → marks_in (if l then Listed (list_in c) else (if b then Body c.body else Kept (four c.id) (Rattle.wave_file.specs.Map.at_front at (Rattle.wave_file.specs.Map.role_of c)))) ++ all_marks rest
+        ≡ (if l then items_of info info_items c ∷ all_items info info_items (flat_map live xs) else all_items info info_items (flat_map live xs))
+    go true b e h = ap (λ (ts : List Token). ts ∷ all_marks rest) (marks_again c) ∙ ap (λ (tss : List (List Token)). items_of info info_items c ∷ tss) h
+    go false true e h = h
+    go false false e h = h
+marks_told at (Rattle.container_model.specs.Units.gap c ∷ xs) u = marks_told (at + length (spell_all (c ∷ []))) xs u
+marks_told at (Rattle.container_model.specs.Units.edited old now ∷ xs) u = marks_told (at + length (spell_all old)) xs u.1 ∙ sym (all_past now (flat_map live xs) u.0)
+
+has_any : (cs : List Chunk) → has_carrier info cs ≡ list_any is_info cs
+has_any [] = refl
+has_any (c ∷ cs) = ap (λ (t : Bool). is_info c || t) (has_any cs)
+
+some_lists : (h : List ℕ → ℕ) (e : List (Item (List ℕ))) (from : ℕ) (xs : List Cell) (ys : List CellAt) → Unmet is_info xs → ys ≡ told_row from xs → has_carrier info (flat_map live xs) ≡ nat_lt 0 (count_row is_list ys)
+some_lists h e from xs ys u is =
+    has_any (flat_map live xs) ∙ some_told is_info (edit_nth info info_items h e) is_list (λ n x. list_edited (homed_of h e) n x) (lists_fits h e) from xs u ∙ ap (λ (zs : List CellAt). nat_lt 0 (count_row is_list zs)) (sym is)
+
+pub lists_changed : (e : List (Item (List ℕ))) (from : ℕ) (xs : List Cell) (ys : List CellAt) (is : List Homed) → is ≡ homed_of (home (all_marks ys)) e → Unmet is_info xs → ys ≡ told_row from xs → 0 < count_row is_list ys
+    → changed_row is_list (λ n x. list_edited is n x) 0 ys ≡ told_row from (acted_cells (lists_act info info_items never e (flat_map live xs)) xs)
+lists_changed e from xs ys is same u told some =
+    let cs = flat_map live xs in
+    let h : List ℕ → ℕ = home (all_items info info_items cs) in
+    let homes : is ≡ homed_of h e = same ∙ ap (λ (tss : List (List Token)). homed_of (home tss) e) (ap all_marks told ∙ marks_told from xs u) in
+    ap (λ (js : List Homed). changed_row is_list (λ n x. list_edited js n x) 0 ys) homes
+    ∙ ap (changed_row is_list (λ n x. list_edited (homed_of h e) n x) 0) told
+    ∙ sym (settled is_info (edit_nth info info_items h e) is_list (λ n x. list_edited (homed_of h e) n x) (lists_fits h e) 0 from xs u)
+    ∙ ap (λ (t : Bool). told_row from (acted_cells (lists_act_by info info_items never e cs t) xs)) (sym (some_lists h e from xs ys u told ∙ lt-ltb 0 (count_row is_list ys) some))
+
+-- there is no list
+no_marks : (xs : List CellAt) → count_row is_list xs ≡ 0 → all_marks xs ≡ []
+no_marks [] e = refl
+no_marks (x ∷ xs) e = go x.content e (no_marks xs)
+  where
+    go : (y : Content) → (if is_list y then count_row is_list xs + 1 else count_row is_list xs) ≡ 0 → (count_row is_list xs ≡ 0 → all_marks xs ≡ []) → marks_in y ++ all_marks xs ≡ []
+    go (Listed list) e again = absurd (omega arith)
+    go Gap e again = again e
+    go (Kept id role) e again = again e
+    go (Body body) e again = again e
+    go (Edited now parts) e again = again e
+
+part_whole : (e : List (Item (List ℕ))) → part_in 0 (homed_of (home []) e) ≡ e
+part_whole [] = refl
+part_whole (i ∷ e) = ap (λ (xs : List (Item (List ℕ))). i ∷ xs) (part_whole e)
+
+whole_part_is : (e : List (Item (List ℕ))) (ys : List CellAt) (is : List Homed) → is ≡ homed_of (home (all_marks ys)) e → count_row is_list ys ≡ 0 → part_in 0 is ≡ e
+whole_part_is e ys is same none = ap (part_in 0) (same ∙ ap (λ (tss : List (List Token)). homed_of (home tss) e) (no_marks ys none)) ∙ part_whole e
+
+pub no_list : (e : List (Item (List ℕ))) (from : ℕ) (xs : List Cell) (ys zs : List CellAt) (is : List Homed) → is ≡ homed_of (home (all_marks ys)) e → Unmet is_info xs → ys ≡ told_row from xs → count_row is_list ys ≡ 0
+    → zs ≡ changed_row is_list (λ n x. list_edited is n x) 0 ys → sets_some (part_in 0 is) ≡ false → zs ≡ told_row from (acted_cells (lists_act info info_items never e (flat_map live xs)) xs)
+no_list e from xs ys zs is same u told none c sets =
+    c ∙ none_changed is_list (λ n x. list_edited is n x) 0 ys none ∙ told
+    ∙ ap (λ (t : Bool). told_row from (acted_cells (new_carrier info info_items never e t) xs)) (sym (ap sets_some (sym (whole_part_is e ys is same none)) ∙ sets))
+    ∙ ap (λ (t : Bool). told_row from (acted_cells (lists_act_by info info_items never e (flat_map live xs) t) xs)) (sym (some_lists (home []) e from xs ys u told ∙ ap (nat_lt 0) none))
+
+pub new_lists : (e : List (Item (List ℕ))) (from : ℕ) (xs : List Cell) (ys zs : List CellAt) (is : List Homed) (content : Content) → is ≡ homed_of (home (all_marks ys)) e → Unmet is_info xs → ys ≡ told_row from xs → count_row is_list ys ≡ 0
+    → zs ≡ changed_row is_list (λ n x. list_edited is n x) 0 ys → IsNewList (part_in 0 is) (Some content)
+    → put_new false (new_at content) from zs ≡ told_row from (acted_cells (lists_act info info_items never e (flat_map live xs)) xs)
+new_lists e from xs ys zs is content same u told none c new =
+    let part = whole_part_is e ys is same none in
+    let d : Chunk = fresh_list e in
+    ap (λ (y : Content). put_new false (new_at y) from zs) (new.1 ∙ ap (λ (f : List (Item (List ℕ))). Edited (spell_all (fresh_list f ∷ [])) (parts_in part_count (fresh_list f ∷ []))) part)
+    ∙ put_last d from xs zs (c ∙ none_changed is_list (λ n x. list_edited is n x) 0 ys none ∙ told)
+    ∙ ap (λ (t : Bool). told_row from (acted_cells (new_carrier info info_items never e t) xs)) (sym (ap sets_some (sym part) ∙ new.0))
+    ∙ ap (λ (t : Bool). told_row from (acted_cells (lists_act_by info info_items never e (flat_map live xs) t) xs)) (sym (some_lists (home []) e from xs ys u told ∙ ap (nat_lt 0) none))
+
+-- ---- whatever the file
+
+pub lists_follow : (is : List Homed) (from : ℕ) (ys zs : List CellAt) (end : ℕ) → zs ≡ changed_row is_list (λ n x. list_edited is n x) 0 ys → Follow from ys end → Follow from zs end
+lists_follow is from ys zs end e h = subst (λ (xs : List CellAt). Follow from xs end) (sym e) (change_follows is_list (λ n x. list_edited is n x) (λ n x. by n x x.content) 0 from ys end h)
+  where
+    by : (n : ℕ) (x : CellAt) (y : Content) → ((list_edited_by is n x y).at ≡ x.at) × ((list_edited_by is n x y).next ≡ x.next)
+    by n x (Listed list) = go (concerned n (tokens_of list) is)
+      where
+        go : (t : Bool) → ((if t then edited_at x (changed_list (part_in n is) list ∷ []) else x).at ≡ x.at) × ((if t then edited_at x (changed_list (part_in n is) list ∷ []) else x).next ≡ x.next)
+        go true = (refl, refl)
+        go false = (refl, refl)
+    by n x Gap = (refl, refl)
+    by n x (Kept id role) = (refl, refl)
+    by n x (Body body) = (refl, refl)
+    by n x (Edited now parts) = (refl, refl)
+
+-- the changes are of INFO fields
+info_homed : (h : List ℕ → ℕ) (e : List (Item (List ℕ))) → SetsInfo e → AreInfo (homed_of h e)
+info_homed h [] s = tt
+info_homed h (i ∷ e) s = (s.0, info_homed h e s.1)
+
+info_sets : (e : List RawItem) → SetsInfo (info_part e)
+info_sets [] = tt
+info_sets (i ∷ e) = both (info_item i.name i.value) (one i.name i.value) (info_sets e)
+  where
+    both : (a : List (Item (List ℕ))) → SetsInfo a → SetsInfo (info_part e) → SetsInfo (a ++ info_part e)
+    both [] a h = h
+    both (x ∷ xs) a h = (a.0, both xs a.1 h)
+
+    by : (id : FourCc) (value : Option Value) (t : Bool) → one_of info_ids id.0 ≡ t → SetsInfo (if t then record { name = id.0; value = option_map raw value } ∷ [] else [])
+    by id value true e = (e, tt)
+    by id value false e = tt
+
+    one : (name : FieldName) (value : Option Value) → SetsInfo (info_item name value)
+    one (Bext field) value = tt
+    one (Info id) value = by id value (one_of info_ids id.0) refl
+    one (Whole id) value = tt
+    one (User id) value = tt
+
+pub are_info : (h : List ℕ → ℕ) (e : List RawItem) (is : List Homed) → is ≡ homed_of h (info_part e) → AreInfo is
+are_info h e is same = subst AreInfo (sym same) (info_homed h (info_part e) (info_sets e))
+
+pub fresh_as : (e : List (Item (List ℕ))) (list : InfoList) → list.items ≡ [] → list.rest ≡ [] → fresh_list e ≡ changed_list e list
+fresh_as e list items rest =
+    ap (λ (is : List InfoItem). list_of (put_all info_items e (map made_of is)) []) (sym items) ∙ ap (λ (r : List ℕ). list_of (put_all info_items e (map made_of list.items)) r) (sym rest)
+
+pub new_is : (e part : List (Item (List ℕ))) (list : InfoList) (content : Content) (sets : Bool) → part ≡ e → sets ≡ sets_some part → sets ≡ true → list.items ≡ [] → list.rest ≡ []
+    → ((c : Chunk) → c ≡ changed_list e list → content ≡ Edited (spell_all (c ∷ [])) (parts_in part_count (c ∷ []))) → IsNewList e (Some content)
+new_is e part list content sets p s t items rest h = (ap sets_some (sym p) ∙ sym s ∙ t, h (fresh_list e) (fresh_as e list items rest))

@@ -156,11 +156,11 @@ follow_end : (at : ℕ) (xs : List CellAt) (end : ℕ) → Follow at xs end → 
 follow_end at [] end h = omega arith
 follow_end at (x ∷ xs) end h = omega arith
 
-pub put_follows : (b : Bool) (now : List ℕ) (parts at : ℕ) (xs : List CellAt) (end : ℕ) → Follow at xs end → Follow at (put_new b (new_at now parts) at xs) end
-put_follows b now parts at [] end h = (refl, omega arith, omega arith, h)
-put_follows b now parts at (x ∷ xs) end h = go (stops b x xs) (put_follows b now parts x.next xs end h.3)
+pub put_follows : (b : Bool) (content : Content) (at : ℕ) (xs : List CellAt) (end : ℕ) → Follow at xs end → Follow at (put_new b (new_at content) at xs) end
+put_follows b content at [] end h = (refl, omega arith, omega arith, h)
+put_follows b content at (x ∷ xs) end h = go (stops b x xs) (put_follows b content x.next xs end h.3)
   where
-    go : (t : Bool) → Follow x.next (put_new b (new_at now parts) x.next xs) end → Follow at (if t then new_at now parts at ∷ (x ∷ xs) else x ∷ put_new b (new_at now parts) x.next xs) end
+    go : (t : Bool) → Follow x.next (put_new b (new_at content) x.next xs) end → Follow at (if t then new_at content at ∷ (x ∷ xs) else x ∷ put_new b (new_at content) x.next xs) end
     go true again = (refl, omega arith, follow_end at (x ∷ xs) end h, h)
     go false again = (h.0, h.1, h.2, again)
 

@@ -207,7 +207,7 @@ pub record Puts (s : Side) (t : Test) (b : Bool) : Type 0 where
   pub side : (c : Chunk) → meets t c ≡ true → s ≡ before
 
 abbrev pub fresh_at : Chunk → ℕ → CellAt
-fresh_at c at = new_at (spell_all (c ∷ [])) (parts_in part_count (c ∷ [])) at
+fresh_at c at = new_at (Edited (spell_all (c ∷ [])) (parts_in part_count (c ∷ []))) at
 
 gaps_told : (at : ℕ) (xs : List Cell) → all_gaps (told_row at xs) ≡ only_gaps xs
 gaps_told at [] = refl

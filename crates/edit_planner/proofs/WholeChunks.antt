@@ -19,6 +19,7 @@ use Rattle.bext_fields.specs.Change.{raw_item_of, raw_items_of}
 use Rattle.wave_model.specs.Carry.{some_chunk, first_becomes, names_whole, or_last, whole_by, whole_part}
 use Rattle.unit_plan.specs.Shapes.{parts_in}
 use Rattle.edit_planner.specs.declared.cells.CellAt.{CellAt}
+use Rattle.edit_planner.specs.declared.cells.Content.{Content}
 use Rattle.edit_planner.specs.declared.cells.Content.TheVariants.{Edited}
 use Rattle.edit_planner.specs.Cells.{AreFine, IsFine, Follow, part_count, told, told_row, Unmet}
 use Rattle.edit_planner.proofs.Row.{change_follows, put_follows}
@@ -58,7 +59,7 @@ unmet_never (Rattle.container_model.specs.Units.edited old now ∷ xs) = (none n
 
 -- what is put last
 pub put_last : (c : Chunk) (from : ℕ) (xs : List Cell) (ys : List CellAt) → ys ≡ told_row from xs
-    → put_new false (new_at (spell_all (c ∷ [])) (parts_in part_count (c ∷ []))) from ys ≡ told_row from (Rattle.carrier_model.specs.Cells.insert_cell behind never c xs)
+    → put_new false (new_at (Edited (spell_all (c ∷ [])) (parts_in part_count (c ∷ [])))) from ys ≡ told_row from (Rattle.carrier_model.specs.Cells.insert_cell behind never c xs)
 put_last c from xs ys e = ap (put_new false (fresh_at c) from) e ∙ sym (inserted behind never false c last_puts from xs (unmet_never xs))
 
 -- the chunks of an identifier change where they are
@@ -89,10 +90,10 @@ wholes_none w v from xs ys i f u e = rw i (
 -- there is none, and a new one stands last
 new_behind : (w : List ℕ) (v : Value) (from : ℕ) (xs : List Cell) (ys zs : List CellAt) (now : List ℕ) → one_of whole_ids w ≡ true → Unmet (is_field w) xs → ys ≡ told_row from xs → count_row (is_whole w) ys ≡ 0
     → zs ≡ changed_row (is_whole w) (λ n x. edited_at x (first_new (new_whole w (Some v)) n)) 0 ys → now ≡ spell (made w v.raw)
-    → put_new false (new_at now 1) from zs ≡ told_row from (acted_cells (whole_by w (Some (Some v)) (some_chunk (is_field w) (flat_map live xs))) xs)
+    → put_new false (new_at (Edited now 1)) from zs ≡ told_row from (acted_cells (whole_by w (Some (Some v)) (some_chunk (is_field w) (flat_map live xs))) xs)
 new_behind w v from xs ys zs now f u e none c i =
-    ap (λ (b : List ℕ). put_new false (new_at b 1) from zs) (i ∙ sym (append-nil (spell (made w v.raw))))
-    ∙ ap (λ (n : ℕ). put_new false (new_at (spell_all (made w v.raw ∷ [])) n) from zs) (sym one)
+    ap (λ (b : List ℕ). put_new false (new_at (Edited b 1)) from zs) (i ∙ sym (append-nil (spell (made w v.raw))))
+    ∙ ap (λ (n : ℕ). put_new false (new_at (Edited (spell_all (made w v.raw ∷ [])) n)) from zs) (sym one)
     ∙ put_last (made w v.raw) from xs zs (c ∙ none_changed (is_whole w) (λ n x. edited_at x (first_new (new_whole w (Some v)) n)) 0 ys none ∙ e)
     ∙ go (some_chunk (is_field w) (flat_map live xs)) there
   where
@@ -117,7 +118,7 @@ new_behind w v from xs ys zs now f u e none c i =
 
 pub wholes_new : (w : List ℕ) (o : Option Value) (v : Value) (from : ℕ) (xs : List Cell) (ys zs : List CellAt) (now : List ℕ) → o ≡ Some v → one_of whole_ids w ≡ true → Unmet (is_field w) xs → ys ≡ told_row from xs → count_row (is_whole w) ys ≡ 0
     → zs ≡ changed_row (is_whole w) (λ n x. edited_at x (first_new (new_whole w o) n)) 0 ys → now ≡ spell (made w v.raw)
-    → put_new false (new_at now 1) from zs ≡ told_row from (acted_cells (whole_by w (Some o) (some_chunk (is_field w) (flat_map live xs))) xs)
+    → put_new false (new_at (Edited now 1)) from zs ≡ told_row from (acted_cells (whole_by w (Some o) (some_chunk (is_field w) (flat_map live xs))) xs)
 wholes_new w o v from xs ys zs now s f u e none c i =
     rw s (new_behind w v from xs ys zs now f u e none (subst (λ (x : Option Value). zs ≡ changed_row (is_whole w) (λ n y. edited_at y (first_new (new_whole w x) n)) 0 ys) s c) i)
 
@@ -126,8 +127,8 @@ wholes_new w o v from xs ys zs now s f u e none c i =
 pub wholes_follow : (w : List ℕ) (v : Option Value) (from : ℕ) (ys zs : List CellAt) (end : ℕ) → zs ≡ changed_row (is_whole w) (λ n x. edited_at x (first_new (new_whole w v) n)) 0 ys → Follow from ys end → Follow from zs end
 wholes_follow w v from ys zs end e h = subst (λ (xs : List CellAt). Follow from xs end) (sym e) (change_follows (is_whole w) (λ n x. edited_at x (first_new (new_whole w v) n)) (λ n x. (refl, refl)) 0 from ys end h)
 
-pub new_follows : (now : List ℕ) (parts from : ℕ) (ys zs : List CellAt) (end : ℕ) → zs ≡ put_new false (new_at now parts) from ys → Follow from ys end → Follow from zs end
-new_follows now parts from ys zs end e h = subst (λ (xs : List CellAt). Follow from xs end) (sym e) (put_follows false now parts from ys end h)
+pub new_follows : (content : Content) (from : ℕ) (ys zs : List CellAt) (end : ℕ) → zs ≡ put_new false (new_at content) from ys → Follow from ys end → Follow from zs end
+new_follows content from ys zs end e h = subst (λ (xs : List CellAt). Follow from xs end) (sym e) (put_follows false content from ys end h)
 
 -- ---- the last change of a field
 

@@ -4,12 +4,14 @@ use Rattle.std.specs.declared.result.Result.TheVariants.{Ok, Err}
 use Rattle.std.specs.List.{AllByRecursion}
 use Rattle.part_tree.specs.Letters.{four}
 use Rattle.part_tree.specs.Names.{info_ids}
-use Rattle.container_model.specs.Chunk.{Chunk}
+use Rattle.container_model.specs.Chunk.{Chunk, spell_all}
 use Rattle.container_model.specs.Deep.{Token}
 use Rattle.container_model.specs.Items.{Item, has_mark, put_all}
 use Rattle.carrier_model.specs.Info.{info_items, list_of, one_of}
 use Rattle.carrier_model.specs.Large.{Size, limited, first_above}
-use Rattle.carrier_model.specs.Lists.{some_hold, first_holder}
+use Rattle.carrier_model.specs.Lists.{some_hold, first_holder, sets_some}
+use Rattle.unit_plan.specs.Shapes.{parts_in}
+use Rattle.edit_planner.specs.Cells.{part_count}
 use Rattle.info_list.specs.Info.{chunks_of, tokens_of}
 use Rattle.info_list.specs.declared.InfoList.{InfoList}
 use Rattle.edit_planner.specs.declared.cells.CellAt.{CellAt}
@@ -104,3 +106,16 @@ TellsLarge ss (Err Memory) = Unit {0}
 abbrev pub IsLarge : ℕ → ListsFault → Type 0
 IsLarge size (TooLarge told) = (told ≡ size) × (size < 2 ^ 64 - 1)
 IsLarge size Memory = Unit {0}
+
+-- ---- a new list
+
+abbrev pub fresh_list : List (Item (List ℕ)) → Chunk
+fresh_list e = list_of (put_all info_items e []) []
+
+-- a new list where an edit sets a value, and none where it sets none
+abbrev pub IsNewList : List (Item (List ℕ)) → Option Content → Type 0
+IsNewList e None = sets_some e ≡ false
+IsNewList e (Some content) = (sets_some e ≡ true) × (content ≡ Edited (spell_all (fresh_list e ∷ [])) (parts_in part_count (fresh_list e ∷ [])))
+
+abbrev pub new_sizes : List (Item (List ℕ)) → List Size
+new_sizes e = if sets_some e then limited (2 ^ 24) (length (fresh_list e).body) ∷ [] else []

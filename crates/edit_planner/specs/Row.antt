@@ -85,8 +85,8 @@ edited_at x now = record { at = x.at; next = x.next; lacks_pad = false; content 
 -- ---- a new cell
 
 -- a cell where nothing stood
-abbrev pub new_at : List ℕ → ℕ → ℕ → CellAt
-new_at now parts at = record { at = at; next = at; lacks_pad = false; content = Edited now parts }
+abbrev pub new_at : Content → ℕ → CellAt
+new_at content at = record { at = at; next = at; lacks_pad = false; content = content }
 
 -- A new cell goes before `fmt `, where it is to, and else behind all but padding.
 abbrev pub stops : Bool → CellAt → List CellAt → Bool

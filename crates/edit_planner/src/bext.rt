@@ -123,5 +123,5 @@ pub fn edit_bext(
         return Ok(());
     }
     let now = new_chunk(alloc, changes)?;
-    put_cell(cells, from, true, now, 1)
+    put_cell(cells, from, true, Content::Edited { now, parts: 1 })
 }

@@ -131,10 +131,9 @@ pub fn put_cell(
     cells: &mut Vec<CellAt>,
     from: u64,
     before_format: bool,
-    now: Bytes,
-    parts: u64,
+    content: Content,
 ) -> Result<(), NoMemory>
-    ensures { OnOk result (cells.new.items ≡ put_new before_format (new_at now parts) from cells.old.items) }
+    ensures { OnOk result (cells.new.items ≡ put_new before_format (new_at content) from cells.old.items) }
 {
     let k = place_for(cells, before_format);
     let at = start_of(cells, from, k);
@@ -142,7 +141,7 @@ pub fn put_cell(
         at,
         next: at,
         lacks_pad: false,
-        content: Content::Edited { now, parts },
+        content,
     };
     match cells.insert(k, cell) {
         Err(_) => Err(NoMemory),

@@ -8,7 +8,7 @@ ghost use Rattle.container_model.specs.Items.{has_mark, put_all};
 ghost use Rattle.carrier_model.specs.Cells.{acted_cells, never};
 ghost use Rattle.carrier_model.specs.Info.{info, info_items, list_of};
 ghost use Rattle.carrier_model.specs.Large.{limited};
-ghost use Rattle.carrier_model.specs.Lists.{home, lists_act, some_hold};
+ghost use Rattle.carrier_model.specs.Lists.{home, lists_act, sets_some, some_hold};
 ghost use Rattle.bext_fields.specs.Change.{raw_items_of};
 ghost use Rattle.info_list.specs.Changes.{changes_of};
 ghost use Rattle.info_list.specs.Info.{chunks_of, tokens_of};
@@ -17,7 +17,7 @@ ghost use Rattle.wave_model.specs.Carry.{info_item, info_part, raw};
 ghost use Rattle.unit_plan.specs.Shapes.{parts_in};
 ghost use Rattle.edit_planner.specs.Cells.{AreReadable, Follow, IsReadable, Unmet, part_count, told_row};
 ghost use Rattle.edit_planner.specs.Row.{changed_row, count_row, is_list as holds_list};
-ghost use Rattle.edit_planner.specs.Lists.{AreInfo, IsLarge, TellsLarge, all_marks, changed_list, concerned, home_from, homed_as, homed_of, list_edited, marks_in, part_in, size_in, sizes_in};
+ghost use Rattle.edit_planner.specs.Lists.{AreInfo, IsLarge, IsNewList, TellsLarge, new_sizes, all_marks, changed_list, concerned, home_from, homed_as, homed_of, list_edited, marks_in, part_in, size_in, sizes_in};
 ghost use Rattle.edit_planner.specs.declared.cells.CellAt.{CellAt};
 
 use crate::cells::{CellAt, Content, is_list, put_cell};
@@ -226,12 +226,7 @@ fn edited_list(
 }
 
 // Edits a cell where it is a list that the changes concern. Gives the number of the next list.
-fn list_at(
-    cell: &mut CellAt,
-    alloc: Global,
-    homed: &[Homed],
-    n: usize,
-) -> Result<usize, ListsFault>
+fn list_at(cell: &mut CellAt, alloc: Global, homed: &[Homed], n: usize) -> Result<usize, ListsFault>
     requires readable { IsReadable cell.old.content }
     requires info { AreInfo homed.now }
     requires few { n + 1 < 2 ^ 64 }
@@ -274,4 +269,72 @@ fn change_lists(
         };
     }
     Ok(count)
+}
+
+// Whether a change sets a value.
+fn sets_value(part: &[InfoChange]) -> bool
+    ensures { result ≡ sets_some (changes_of part.now) }
+{
+    'changes: for change in part {
+        if change.value.is_some() {
+            return true;
+        }
+    }
+    false
+}
+
+// A new list, where the changes set a value.
+fn new_list(alloc: Global, homed: &[Homed]) -> Result<Option<Content>, ListsFault>
+    requires info { AreInfo homed.now }
+    ensures content { IfOk result (λ content. IsNewList (part_in 0 homed.now) content) }
+    ensures large { TellsLarge (new_sizes (part_in 0 homed.now)) result }
+{
+    let part = match part_for(alloc, homed, 0) {
+        Err(_) => return Err(ListsFault::Memory),
+        Ok(part) => part,
+    };
+    if !sets_value(&part) {
+        return Ok(None);
+    }
+    let mut list = InfoList::new(alloc);
+    match edited_list(&mut list, alloc, homed, 0) {
+        Err(fault) => Err(fault),
+        Ok(content) => Ok(Some(content)),
+    }
+}
+
+/// Edits the lists of INFO items in a row of cells that begins at the byte `from`: each list that has an item of a changed
+/// field, or where such a field is at home. Where there is no list and a field is set, a new one stands behind all but
+/// padding. `TooLarge` tells the first list whose body passes 16 MiB.
+pub fn edit_lists(
+    cells: &mut Vec<CellAt>,
+    alloc: Global,
+    from: u64,
+    changes: &[RawChange],
+) -> Result<(), ListsFault>
+    requires readable { AreReadable cells.old.items }
+    ensures told { OnOk result ((xs : List Cell) → Unmet is_info xs → cells.old.items ≡ told_row from xs
+        → cells.new.items ≡ told_row from (acted_cells (lists_act info info_items never (info_part (raw_items_of changes.now)) (flat_map live xs)) xs)) }
+    ensures follow { OnOk result ((end : ℕ) → Follow from cells.old.items end → Follow from cells.new.items end) }
+{
+    let homed = match homed_changes(alloc, cells, changes) {
+        Err(_) => return Err(ListsFault::Memory),
+        Ok(homed) => homed,
+    };
+    let count = match change_lists(cells, alloc, &homed) {
+        Err(fault) => return Err(fault),
+        Ok(count) => count,
+    };
+    if count > 0 {
+        return Ok(());
+    }
+    let content = match new_list(alloc, &homed) {
+        Err(fault) => return Err(fault),
+        Ok(None) => return Ok(()),
+        Ok(Some(content)) => content,
+    };
+    match put_cell(cells, from, false, content) {
+        Err(_) => Err(ListsFault::Memory),
+        Ok(()) => Ok(()),
+    }
 }

@@ -112,7 +112,7 @@ pub fn put_whole(
         return Ok(());
     };
     let now = spell_chunk(alloc, word, value.raw.as_slice())?;
-    put_cell(cells, from, false, now, 1)
+    put_cell(cells, from, false, Content::Edited { now, parts: 1 })
 }
 
 // Whether a change is of the field of an identifier as a whole.

@@ -1,5 +1,6 @@
 use Rattle.std.proofs.Common.{◌∙◌, ◌≡◌, sym, ap, arith, true}
 use Rattle.bext_fields.specs.Change.{raw_items_of}
+use Rattle.edit_planner.specs.declared.cells.Content.TheVariants.{Edited}
 use Rattle.wave_file.proofs.Roles.{ok_map}
 use Rattle.edit_planner.proofs.BextChunk.{bodies_changed, body_new, bodies_follow, bodies_readable, put_readable_on, put_follows_on}
 use Rattle.edit_planner.proofs.bext.edit_bext.Goals as goal
@@ -28,7 +29,7 @@ pub returns-clause-follow : goal.returns-clause-follow
 returns-clause-follow c =
     ok_map c.put_cell.result
     (λ put. λ end h.
-    put_follows_on true c.in_ok-now.now 1 c.args.from c.change_bodies.new.cells.items c.put_cell.new.cells.items end put
+    put_follows_on true (Edited c.in_ok-now.now 1) c.args.from c.change_bodies.new.cells.items c.put_cell.new.cells.items end put
     (bodies_follow (raw_items_of c.args.changes.now) c.args.from c.args.cells.now.items c.change_bodies.new.cells.items end c.in_ok-count.ensures.cells h))
     c.put_cell.ensures
 
@@ -36,6 +37,6 @@ pub returns-clause-readable : goal.returns-clause-readable
 returns-clause-readable c =
     ok_map c.put_cell.result
     (λ put.
-    put_readable_on true c.in_ok-now.now 1 c.args.from c.change_bodies.new.cells.items c.put_cell.new.cells.items put
+    put_readable_on true (Edited c.in_ok-now.now 1) tt c.args.from c.change_bodies.new.cells.items c.put_cell.new.cells.items put
     (bodies_readable (raw_items_of c.args.changes.now) c.args.cells.now.items c.change_bodies.new.cells.items c.in_ok-count.ensures.cells c.requires.readable))
     c.put_cell.ensures

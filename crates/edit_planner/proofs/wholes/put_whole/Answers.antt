@@ -1,6 +1,7 @@
 use Rattle.std.proofs.Common.{◌≡◌, ◌∙◌, sym, ap, refl, arith, ℕ, List}
 use Rattle.container_model.specs.Chunk.{spell}
 use Rattle.carrier_model.specs.Info.{made}
+use Rattle.edit_planner.specs.declared.cells.Content.TheVariants.{Edited}
 use Rattle.wave_file.proofs.Roles.{ok_map}
 use Rattle.edit_planner.proofs.WholeChunks.{wholes_changed, wholes_none, wholes_new, wholes_follow, new_follows}
 use Rattle.edit_planner.proofs.wholes.put_whole.Goals as goal
@@ -32,6 +33,6 @@ pub returns-clause-follow : goal.returns-clause-follow
 returns-clause-follow c =
     ok_map c.put_cell.result
     (λ put. λ end h.
-    new_follows c.in_ok-now.now 1 c.args.from c.change_wholes.new.cells.items c.put_cell.new.cells.items end put
+    new_follows (Edited c.in_ok-now.now 1) c.args.from c.change_wholes.new.cells.items c.put_cell.new.cells.items end put
     (wholes_follow c.args.word.0 c.args.value.now c.args.from c.args.cells.now.items c.change_wholes.new.cells.items end c.in_ok-count.ensures.cells h))
     c.put_cell.ensures
