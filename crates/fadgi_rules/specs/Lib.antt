@@ -1,0 +1,7 @@
+pub mod Changed
+pub mod Days
+pub mod Findings
+pub mod Items
+pub mod Lines
+pub mod Present
+pub mod Rows

@@ -1,0 +1,51 @@
+//! The 24 editing rules: which of them an edit of the fields of a file breaks, and which of them fields break as they stand.
+//! It knows fields and edits alone, and no file. The first broken rule is found without taking memory.
+#![tactic(auto)]
+
+ghost use Rattle.std.specs.Prelude.{◌≡◌, [], IfOk};
+ghost use Rattle.part_tree.specs.Fields.{values};
+ghost use Rattle.field_model.specs.Broken as spec;
+ghost use Rattle.field_model.specs.Lawful.{IsLawful};
+
+mod changed;
+mod history;
+mod item;
+mod present;
+mod row;
+mod table;
+mod text;
+
+use core_edit::Edit;
+use item::first_by_items;
+pub use part_tree::{Broken, RuleSet};
+use part_tree::{Fields, Kind, NoMemory};
+use row::{all_by_fields, first_by_fields};
+use std::alloc::Global;
+pub use table::{RULES, RuleRow};
+
+/// The first rule of the chosen sets that an edit breaks, with the first field in field order that breaks it. None where it
+/// breaks none.
+pub fn first_broken(kind: Kind, fields: &Fields, edit: &Edit, rules: RuleSet) -> Option<Broken>
+    requires { IsLawful (values fields.now) }
+    ensures { result ≡ spec.broken kind (values fields.now) edit.now rules }
+{
+    let items = edit.items();
+    match first_by_items(kind, fields, items) {
+        Some(broken) => Some(broken),
+        None => first_by_fields(kind, fields, items, rules),
+    }
+}
+
+/// Each rule of the chosen sets that fields break without an edit, and each field that breaks it: by rule, then in field
+/// order.
+pub fn all_broken(
+    alloc: Global,
+    kind: Kind,
+    fields: &Fields,
+    rules: RuleSet,
+) -> Result<Vec<Broken>, NoMemory>
+    requires { IsLawful (values fields.now) }
+    ensures { IfOk result (λ v. v.items ≡ spec.findings kind (values fields.now) [] rules) }
+{
+    all_by_fields(alloc, kind, fields, rules)
+}
