@@ -35,6 +35,11 @@ abbrev pub size_cut : Bool → ℕ → Cut
 size_cut false n = record { at = 4; len = 4; bytes = to_le_bytes w32 n }
 size_cut true n = record { at = 20; len = 8; bytes = to_le_bytes w64 n }
 
+-- the same, as a planner holds it
+abbrev pub size_at : Bool → ℕ → CutAt
+size_at false n = record { span = record { at = 4; len = 4 }; bytes = to_le_bytes w32 n; keep = 0 }
+size_at true n = record { span = record { at = 20; len = 8 }; bytes = to_le_bytes w64 n; keep = 0 }
+
 -- the bytes with the size set
 abbrev pub sized : Bool → ℕ → List ℕ → List ℕ
 sized false n b = take 4 b ++ (to_le_bytes w32 n ++ drop 8 b)

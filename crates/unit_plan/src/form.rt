@@ -1,7 +1,7 @@
 // The size of a form.
 ghost use Rattle.std.specs.Prelude.{◌≡◌, ◌<◌, ◌^◌, ℕ, List, IfOk, false};
 ghost use Rattle.unit_plan.specs.Cuts.{IsExact, cut_in};
-ghost use Rattle.unit_plan.specs.Sized.{size_cut};
+ghost use Rattle.unit_plan.specs.Sized.{size_at, size_cut};
 
 use crate::cut::CutAt;
 use part_tree::{Bytes, NoMemory, Span};
@@ -12,10 +12,8 @@ use std::alloc::Global;
 pub fn size_cut(alloc: Global, wide: bool, size: u64) -> Result<CutAt, NoMemory>
     requires { wide ≡ false → size < 2 ^ 32 }
     ensures cut { IfOk result (λ k. (b : List ℕ) → cut_in b k ≡ size_cut wide size) }
-    ensures place { IfOk result (λ k. (k.span.at ≡ (size_cut wide size).at) × (k.span.len ≡ (size_cut wide size).len)) }
-    ensures bytes { IfOk result (λ k. k.bytes ≡ (size_cut wide size).bytes) }
+    ensures is { IfOk result (λ k. k ≡ size_at wide size) }
     ensures exact { IfOk result (λ k. IsExact k) }
-    ensures keep { IfOk result (λ k. k.keep ≡ 0) }
 {
     if wide {
         let bytes = Bytes::new(alloc, &size.to_le_bytes())?;
