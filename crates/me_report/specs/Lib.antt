@@ -1,0 +1,4 @@
+pub mod Checksums
+pub mod Done
+pub mod Findings
+pub mod Lines

@@ -1,0 +1,141 @@
+// Worked rows.
+use crate::{Summary, done_line, md5_findings, md5_text, sound_md5, validate_text};
+use me_disk::{Run, SparseDepot};
+use part_tree::{BextField, Broken, Bytes, FieldName, Fields, FourCc, Span, Value};
+use std::alloc::Global;
+use std::test::Fail;
+
+// The MD5 of `abc`.
+const ABC: [u8; 16] = [
+    0x90, 0x01, 0x50, 0x98, 0x3c, 0xd2, 0x4f, 0xb0, 0xd6, 0x96, 0x3f, 0x7d, 0x28, 0xe1, 0x7f, 0x72,
+];
+
+#[test]
+fn lines_of_what_was_done(rt: HostRuntime) {
+    let rows = [
+        (true, true, 4, "done changed in-place essence 4\n"),
+        (
+            true,
+            false,
+            5_000_000_000,
+            "done changed rewrite essence 5000000000\n",
+        ),
+        (false, false, 0, "done unchanged essence 0\n"),
+    ];
+    for (changed, in_place, payload, text) in rows.iter() {
+        let line = done_line(&Summary {
+            changed: *changed,
+            in_place: *in_place,
+            payload: *payload,
+            findings: 7,
+        });
+        assert_eq!(rt; line.as_slice(), text.as_bytes());
+    }
+}
+
+fn broken(rule: u8, field: BextField) -> Broken {
+    Broken {
+        rule,
+        field: FieldName::Bext(field),
+    }
+}
+
+#[test]
+fn lines_of_findings(rt: HostRuntime) -> Result<(), Fail> {
+    let three = [
+        broken(22, BextField::Description),
+        broken(23, BextField::Originator),
+        broken(24, BextField::OriginationDate),
+    ];
+    let text = validate_text(rt.alloc(), &three)?;
+    let lines =
+        "rule FADGI-DESCRIPTION Description\nrule FADGI-ORIGINATOR Originator\nrule FADGI-DATE OriginationDate\nfindings 3\n";
+    assert_eq!(rt; text.as_slice(), lines.as_bytes());
+    Ok(())
+}
+
+#[test]
+fn findings_without_names(rt: HostRuntime) -> Result<(), Fail> {
+    let none = validate_text(rt.alloc(), &[])?;
+    assert_eq!(rt; none.as_slice(), b"findings 0\n".as_slice());
+    let unnamed = validate_text(rt.alloc(), &[broken(25, BextField::Reserved)])?;
+    assert_eq!(rt; unnamed.as_slice(), b"rule  \nfindings 1\n".as_slice());
+    Ok(())
+}
+
+// Zeros between `ab` and `c`.
+fn depot_of(alloc: Global, zeros: u64) -> Result<SparseDepot, Fail> {
+    let mut runs = Vec::new(alloc);
+    runs.push(Run::Bytes(b"ab".to_vec(alloc)?))?;
+    runs.push(Run::Zero(zeros))?;
+    runs.push(Run::Bytes(b"c".to_vec(alloc)?))?;
+    Ok(SparseDepot::new(alloc, Some(runs))?)
+}
+
+// What is printed of a file without a stored checksum.
+fn computed(alloc: Global, depot: &mut SparseDepot, at: u32, len: u32) -> Result<Bytes, Fail> {
+    let sound = Span {
+        at: u64::from(at),
+        len: u64::from(len),
+    };
+    let digest = sound_md5(depot, sound).ok();
+    Ok(md5_text(alloc, &Fields::new(alloc), digest)?)
+}
+
+#[test]
+fn checksums_of_sound(rt: HostRuntime) -> Result<(), Fail> {
+    let rows = [
+        (
+            0,
+            0,
+            3,
+            "stored none\ncomputed 900150983cd24fb0d6963f7d28e17f72\n",
+        ),
+        (
+            0,
+            1,
+            0,
+            "stored none\ncomputed d41d8cd98f00b204e9800998ecf8427e\n",
+        ),
+        (
+            200_000,
+            0,
+            200_003,
+            "stored none\ncomputed 06982e32ecc0ba6f6d27128886c9e5d9\n",
+        ),
+        (0, 1, 3, "stored none\ncomputed none\n"),
+    ];
+    for (zeros, at, len, text) in rows.iter() {
+        let mut depot = depot_of(rt.alloc(), *zeros)?;
+        let printed = computed(rt.alloc(), &mut depot, *at, *len)?;
+        assert_eq!(rt; printed.as_slice(), text.as_bytes());
+    }
+    Ok(())
+}
+
+fn add(alloc: Global, fields: &mut Fields, raw: &[u8]) -> Result<(), Fail> {
+    let value = Value {
+        lang: 0,
+        raw: Bytes::new(alloc, raw)?,
+    };
+    fields.add(FieldName::Whole(FourCc(*b"MD5 ")), value)?;
+    Ok(())
+}
+
+#[test]
+fn stored_checksums(rt: HostRuntime) -> Result<(), Fail> {
+    let mut fields = Fields::new(rt.alloc());
+    assert_eq!(rt; md5_findings(&fields, Some(ABC)), 0);
+    add(rt.alloc(), &mut fields, &ABC)?;
+    assert_eq!(rt; md5_findings(&fields, Some(ABC)), 0);
+    assert_eq!(rt; md5_findings(&fields, Some([0; 16])), 1);
+    add(rt.alloc(), &mut fields, &[0; 16])?;
+    add(rt.alloc(), &mut fields, b"")?;
+    assert_eq!(rt; md5_findings(&fields, Some(ABC)), 1);
+    assert_eq!(rt; md5_findings(&fields, None), 0);
+    let text = md5_text(rt.alloc(), &fields, Some(ABC))?;
+    let lines =
+        "stored 900150983cd24fb0d6963f7d28e17f72\nstored 00000000000000000000000000000000\nstored \ncomputed 900150983cd24fb0d6963f7d28e17f72\n";
+    assert_eq!(rt; text.as_slice(), lines.as_bytes());
+    Ok(())
+}

@@ -1,0 +1,41 @@
+// Bytes put one after the other.
+ghost use Rattle.std.specs.Prelude.{◌≡◌, ◌++◌, OnOk};
+ghost use Rattle.me_report.specs.Lines.{count_line, hex_line};
+
+use core_edit::ShownText;
+use itoa::Buffer;
+use part_tree::NoMemory;
+use std::alloc::Global;
+
+/// Appends bytes.
+pub(crate) fn put(out: &mut Vec<u8>, bytes: &[u8]) -> Result<(), NoMemory>
+    ensures { OnOk result (out.new.items ≡ out.old.items ++ bytes.now) }
+{
+    out.extend_from_slice(bytes)?;
+    Ok(())
+}
+
+/// Appends a word and a number in decimal, as a line.
+pub(crate) fn put_count(out: &mut Vec<u8>, word: &[u8], n: u64) -> Result<(), NoMemory>
+    ensures { OnOk result (out.new.items ≡ out.old.items ++ count_line word.now n) }
+{
+    let mut buffer = Buffer::new();
+    put(out, word)?;
+    put(out, buffer.format(n).as_bytes())?;
+    put(out, b"\n")
+}
+
+/// Appends a word and the hexadecimal digits of bytes in lower case, as a line.
+pub(crate) fn put_hex(
+    alloc: Global,
+    out: &mut Vec<u8>,
+    word: &[u8],
+    raw: &[u8],
+) -> Result<(), NoMemory>
+    ensures { OnOk result (out.new.items ≡ out.old.items ++ hex_line word.now raw.now) }
+{
+    let digits = ShownText::Lower(raw).to_bytes(alloc)?;
+    put(out, word)?;
+    put(out, digits.as_slice())?;
+    put(out, b"\n")
+}
