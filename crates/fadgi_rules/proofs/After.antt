@@ -1,9 +1,8 @@
 -- The values of a name after an edit: those before it, changed by the one item that names it and has an effect.
-use Rattle.std.proofs.Common.{◌≡◌, ℕ, ◌≤◌, List, [], ◌∷◌, Bool, true, false, cond, refl, sym, ap, ◌∙◌, arith, subst, Option, Some, None, max}
-use Rattle.std.specs.Prelude.{◌||◌, ◌&&◌, ◌==◌, option_map, nat_le, length}
-use Rattle.std.specs.List.{list_any, filter_map, cons_option}
-use Rattle.std.proofs.lemmas.Bool.{cond-true, cond-false, leb-true, leb-false}
-use Rattle.part_tree.specs.declared.field.BextField.{BextField}
+use Rattle.std.proofs.Common.{◌≡◌, ℕ, List, [], ◌∷◌, Bool, true, false, cond, refl, sym, ap, ◌∙◌, Option, Some, None}
+use Rattle.std.specs.Prelude.{◌||◌, ◌&&◌, option_map}
+use Rattle.std.specs.List.{filter_map, cons_option}
+use Rattle.std.proofs.lemmas.Bool.{cond-true, cond-false}
 use Rattle.part_tree.specs.declared.field.Change.{Change}
 use Rattle.part_tree.specs.declared.field.Change.TheVariants.{Set, Remove}
 use Rattle.part_tree.specs.declared.field.EditItem.{EditItem}
@@ -13,9 +12,9 @@ use Rattle.part_tree.specs.declared.field.Value.{Value}
 use Rattle.part_tree.specs.Names.{same_name}
 use Rattle.part_tree.proofs.Places.{same_is_equal}
 use Rattle.core_edit.specs.Edits.{AreSound, names_one}
-use Rattle.field_model.specs.Fields.{FieldMap, version_of}
+use Rattle.field_model.specs.Fields.{FieldMap}
 use Rattle.field_model.specs.Raw.{raw_of}
-use Rattle.field_model.specs.Update.{RawItem, has_effect, effective, written, raw_change, raw_item, raw_items, listed, updated_values, is_bext, since_name, needed, made, raised_values, updated, update}
+use Rattle.field_model.specs.Update.{RawItem, has_effect, effective, written, raw_change, raw_item, raw_items, listed, updated_values}
 use Rattle.fadgi_rules.specs.Changed.{change_in}
 
 -- the values after a change in raw bytes, if there is one

@@ -1,9 +1,9 @@
 -- A day is a date with `-` between its numbers.
-use Rattle.std.proofs.Common.{◌≡◌, ℕ, suc, List, [], ◌∷◌, length, get_or, Bool, true, false, refl, sym, ap, ◌∙◌, arith, subst, codes}
+use Rattle.std.proofs.Common.{◌≡◌, ℕ, List, [], ◌∷◌, length, Bool, true, false, refl, sym, ap, ◌∙◌, arith, subst, codes}
 use Rattle.std.specs.Prelude.{◌&&◌, ◌==◌}
 use Rattle.std.proofs.lemmas.Bool.{eqb-true}
 use Rattle.core_edit.proofs.Texts.{form_other}
-use Rattle.field_model.specs.Dates.{fits, has_form, is_date, is_day, date_exists, number_at}
+use Rattle.field_model.specs.Dates.{fits, is_date, is_day, date_exists, number_at}
 use Rattle.fadgi_rules.specs.Days.{has_dashes}
 
 and_no : (a b : Bool) → b ≡ false → (a && b) ≡ false

@@ -1,20 +1,17 @@
 -- The first rule that some item of an edit breaks, one item after the other.
-use Rattle.std.proofs.Common.{◌≡◌, ℕ, suc, ◌<◌, ◌≤◌, List, [], ◌∷◌, ◌++◌, map, Bool, true, false, cond, ltb, leb, eqb, refl, sym, ap, ◌∙◌, arith, subst, Option, Some, None, append_assoc}
-use Rattle.std.specs.Prelude.{filter, not, ◌||◌, ◌&&◌, ◌==◌, nat_lt, nat_le, option_map}
-use Rattle.std.specs.List.{AllByRecursion}
-use Rattle.std.proofs.lemmas.Bool.{cond-true, cond-false, lt-ltb, le-ltb, eq-eqb, ne_eqb}
+use Rattle.std.proofs.Common.{◌≡◌, ℕ, suc, ◌≤◌, List, [], ◌∷◌, ◌++◌, map, Bool, true, false, cond, refl, sym, ap, ◌∙◌, arith, Option, Some, None, append_assoc}
+use Rattle.std.specs.Prelude.{filter, ◌||◌, ◌&&◌, ◌==◌, nat_le, option_map}
+use Rattle.std.proofs.lemmas.Bool.{lt-ltb, le-ltb, eq-eqb, ne_eqb}
 use Rattle.part_tree.specs.declared.field.Broken.{Broken}
 use Rattle.part_tree.specs.declared.field.EditItem.{EditItem}
 use Rattle.part_tree.specs.declared.field.FieldName.{FieldName}
-use Rattle.part_tree.specs.declared.field.RuleSet.{RuleSet}
-use Rattle.part_tree.specs.declared.field.RuleSet.TheVariants.{Base, Ebu, Fadgi}
-use Rattle.part_tree.specs.declared.field.RuleSet.TheVariants as set
+use Rattle.part_tree.specs.declared.field.RuleSet.TheVariants.{Base}
 use Rattle.part_tree.specs.declared.names.Kind.{Kind}
 use Rattle.part_tree.specs.Names.{field_place}
-use Rattle.field_model.specs.Broken.{broken, findings, first_found, first_name, first_of}
+use Rattle.field_model.specs.Broken.{broken, first_found, first_name, first_of}
 use Rattle.field_model.specs.Fields.{FieldMap}
 use Rattle.field_model.specs.Update.{effective, has_effect}
-use Rattle.fadgi_rules.specs.Items.{ItemTest, item_tests, least_from, item_rule, found, item_broken, comes_first, first_of_two, items_broken}
+use Rattle.fadgi_rules.specs.Items.{ItemTest, item_tests, least_from, item_rule, found, first_of_two, items_broken}
 
 -- what some tests find among items, and then the rest
 abbrev pub tests_find : ℕ → List ItemTest → List EditItem → List Broken → List Broken

@@ -13,7 +13,7 @@ use Rattle.part_tree.specs.declared.names.Kind.{Kind}
 use Rattle.field_model.specs.Broken.{has_field}
 use Rattle.field_model.specs.Dates.{is_date, is_time}
 use Rattle.field_model.specs.Rules.{TextRule, text_rules, text_rule}
-use Rattle.fadgi_rules.specs.Items.{ItemTest, text_test, item_tests, least_from, item_rule}
+use Rattle.fadgi_rules.specs.Items.{text_test, least_from, item_rule}
 
 abbrev pub item : FieldName → Change → EditItem
 item name change = record { name = name; change = change }

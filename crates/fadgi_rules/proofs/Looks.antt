@@ -1,6 +1,6 @@
 -- The names that a rule looks at.
-use Rattle.std.proofs.Common.{◌≡◌, ℕ, List, [], ◌∷◌, Bool, true, false, refl, sym, subst, inl, inr, codes}
-use Rattle.std.specs.Prelude.{◌||◌, map, ◌⊎◌, IsTrue}
+use Rattle.std.proofs.Common.{◌≡◌, ℕ, List, [], ◌∷◌, true, false, refl, sym, subst, inl, inr, codes}
+use Rattle.std.specs.Prelude.{◌||◌, map, ◌⊎◌}
 use Rattle.std.specs.List.{list_any}
 use Rattle.std.proofs.lemmas.Bool.{or_cases}
 use Rattle.part_tree.specs.declared.field.BextField.TheVariants.{Description, Originator, OriginatorReference, OriginationDate, OriginationTime, CodingHistory}
@@ -10,11 +10,11 @@ use Rattle.part_tree.specs.declared.names.FourCc.{FourCc}
 use Rattle.part_tree.specs.declared.names.Kind.{Kind}
 use Rattle.part_tree.specs.declared.names.Kind.TheVariants.{Wave, Rf64, Avi, Mov}
 use Rattle.part_tree.specs.Letters.{four}
-use Rattle.part_tree.specs.Names.{same_name, info_ids}
+use Rattle.part_tree.specs.Names.{same_name}
 use Rattle.part_tree.proofs.Places.{same_is_equal}
 use Rattle.fadgi_rules.specs.declared.row.FieldRule.{FieldRule}
 use Rattle.fadgi_rules.specs.declared.row.FieldRule.TheVariants as row
-use Rattle.fadgi_rules.specs.Rows.{fields_of, needs_text, LooksAt}
+use Rattle.fadgi_rules.specs.Rows.{fields_of}
 use Rattle.fadgi_rules.proofs.Views.{Texted}
 
 pub one : (name x : FieldName) → (same_name name x || false) ≡ true → name ≡ x

@@ -1,7 +1,7 @@
 -- The rules on texts that fields show as they stand, one value at a time.
-use Rattle.std.proofs.Common.{◌≡◌, ℕ, suc, List, [], ◌∷◌, length, Bool, true, false, refl, sym, ap, ◌∙◌, arith, subst, Option, Some, None, inl, inr}
+use Rattle.std.proofs.Common.{◌≡◌, ℕ, List, [], ◌∷◌, length, Bool, refl, sym, ap, ◌∙◌, arith, subst, Option, Some, None, inl, inr}
 use Rattle.std.specs.Prelude.{◌||◌, ◌==◌, not, is_some, ◌⊎◌}
-use Rattle.std.specs.List.{list_any, filter_map, cons_option}
+use Rattle.std.specs.List.{list_any, cons_option}
 use Rattle.std.proofs.lemmas.Bool.{ne_eqb}
 use Rattle.part_tree.specs.declared.field.BextField.{BextField}
 use Rattle.part_tree.specs.declared.field.BextField.TheVariants.{LoudnessRange}
@@ -11,7 +11,7 @@ use Rattle.part_tree.specs.declared.field.Value.{Value}
 use Rattle.part_tree.specs.Names.{bext_row}
 use Rattle.field_model.specs.Bext.{width}
 use Rattle.field_model.specs.Body.{FillsRange}
-use Rattle.field_model.specs.Broken.{some_text, shows_too_little}
+use Rattle.field_model.specs.Broken.{some_text}
 use Rattle.field_model.specs.Fields.{FieldMap, first_raw}
 use Rattle.field_model.specs.Lawful.{IsLawful}
 use Rattle.field_model.specs.Numbers.{is_negative}
@@ -19,7 +19,7 @@ use Rattle.field_model.specs.Shown.{shown_texts}
 use Rattle.fadgi_rules.specs.declared.row.FieldRule.{FieldRule}
 use Rattle.fadgi_rules.specs.declared.row.FieldRule.TheVariants as row
 use Rattle.fadgi_rules.specs.Present.{plain_text, option_fails, value_fails, shows_text, shows_negative, HasTwoBytes}
-use Rattle.fadgi_rules.specs.Rows.{fails, text_fails, needs_text, LooksAt}
+use Rattle.fadgi_rules.specs.Rows.{fails, text_fails, LooksAt}
 use Rattle.fadgi_rules.proofs.Looks.{one, OnTexts, looks_texted}
 use Rattle.fadgi_rules.proofs.Range.{range_now}
 use Rattle.fadgi_rules.proofs.Views.{texts, shown_plain}

@@ -1,10 +1,10 @@
 -- Pieces between separators, one after the other.
-use Rattle.std.proofs.Common.{◌≡◌, ℕ, zero, suc, ◌+◌, ◌-◌, ◌<◌, ◌≤◌, List, [], ◌∷◌, ◌++◌, length, take, drop, get_or, set, replicate, Bool, true, false, cond, refl, sym, ap, ◌∙◌, arith, subst, inl, inr}
-use Rattle.std.specs.Prelude.{not, ◌||◌, ◌&&◌, ◌==◌, ◌⊎◌, nat_lt, codes}
+use Rattle.std.proofs.Common.{◌≡◌, ℕ, zero, suc, ◌+◌, ◌-◌, ◌<◌, ◌≤◌, List, [], ◌∷◌, length, take, drop, get_or, set, replicate, Bool, true, false, cond, refl, sym, ap, ◌∙◌, arith, subst, inl, inr}
+use Rattle.std.specs.Prelude.{not, ◌||◌, ◌&&◌, ◌==◌, ◌⊎◌, codes}
 use Rattle.std.specs.List.{list_any, list_all, position_or_len}
-use Rattle.std.proofs.lemmas.Bool.{cond-true, cond-false, and_parts, eqb-true, eq-eqb, ne_eqb, cases_lt}
-use Rattle.std.proofs.lemmas.List.{get_or-set_same, get_or-set_other, drop_all, take_all, drop-drop, length-drop, length-set}
-use Rattle.field_model.specs.History.{joined_front, pieces, is_item, first_letter, are_distinct, is_items_line, without_last, ends_with_cr, is_history_line, are_lines, is_history}
+use Rattle.std.proofs.lemmas.Bool.{and_parts, eqb-true, eq-eqb, ne_eqb, cases_lt}
+use Rattle.std.proofs.lemmas.List.{get_or-set_same, get_or-set_other, take_all, drop-drop, length-drop, length-set}
+use Rattle.field_model.specs.History.{joined_front, pieces, is_item, first_letter, are_distinct, is_items_line, is_history_line, are_lines}
 use Rattle.fadgi_rules.specs.Lines.{is_fresh, are_fresh}
 
 abbrev place : ℕ → List ℕ → ℕ

@@ -1,8 +1,8 @@
 -- The loudness range that is shown, before and after an edit.
-use Rattle.std.proofs.Common.{◌≡◌, ℕ, zero, suc, ◌-◌, ◌/◌, ◌%◌, ◌<◌, ◌≤◌, ◌^◌, List, [], ◌∷◌, ◌++◌, length, get_or, drop, replicate, Bool, true, false, cond, refl, sym, ap, ◌∙◌, arith, subst, Option, Some, None, inl, inr, codes, max}
-use Rattle.std.specs.Prelude.{◌||◌, ◌&&◌, ◌==◌, not, option_map, is_none, nat_le, nat_lt, ◌⊎◌, unwrap_or, decimal}
+use Rattle.std.proofs.Common.{◌≡◌, ℕ, ◌-◌, ◌/◌, ◌%◌, ◌<◌, ◌≤◌, List, [], ◌∷◌, ◌++◌, get_or, drop, Bool, true, false, cond, refl, sym, ap, ◌∙◌, arith, subst, Option, Some, None, inl, inr, codes, max}
+use Rattle.std.specs.Prelude.{◌||◌, ◌&&◌, ◌==◌, option_map, is_none, nat_le, nat_lt, ◌⊎◌, unwrap_or, decimal}
 use Rattle.std.specs.List.{list_any, filter_map, cons_option}
-use Rattle.std.proofs.lemmas.Bool.{cond-true, cond-false, and_parts, lt-ltb, le-ltb, le-leb, lt-leb, leb-true, leb-false, ltb-true, ltb-false, eqb-true, eqb-false, ne_eqb, eq-eqb, cases_lt}
+use Rattle.std.proofs.lemmas.Bool.{cond-true, cond-false, and_parts, lt-ltb, le-ltb, le-leb, lt-leb, leb-true, leb-false, eqb-true, eqb-false, ne_eqb, cases_lt}
 use Rattle.std.proofs.lemmas.Fmt.{decimal_digit, first_decimal}
 use Rattle.me_bytes.specs.Bytes.{le, le_bytes}
 use Rattle.me_bytes.proofs.Laws.{le-le_bytes}
@@ -25,14 +25,14 @@ use Rattle.field_model.specs.Lawful.{IsLawful}
 use Rattle.field_model.specs.Numbers.{is_negative, is_hundredths, hundredths_of, hundredths_text, two_digits, loudness_text, loudness_of, positive_loudness, negative_loudness}
 use Rattle.field_model.specs.Raw.{raw_of}
 use Rattle.field_model.specs.Shown.{shown_loudness, shown_texts}
-use Rattle.field_model.specs.Update.{RawItem, has_effect, effective, written, raw_change, raw_item, raw_items, listed, is_bext, since_name, needed, made, raised_form, raised_values, update}
+use Rattle.field_model.specs.Update.{RawItem, has_effect, effective, written, raw_change, raw_item, raw_items, is_bext, since_name, needed, made, raised_form, update}
 use Rattle.fadgi_rules.specs.declared.row.FieldRule.TheVariants as row
 use Rattle.fadgi_rules.specs.Changed.{change_in}
 use Rattle.fadgi_rules.specs.Present.{number, shows_negative}
 use Rattle.fadgi_rules.specs.Rows.{changed_fails}
 use Rattle.fadgi_rules.proofs.After.{laid, after}
 use Rattle.fadgi_rules.proofs.Passes.{EffectsPass}
-use Rattle.fadgi_rules.proofs.Views.{Sound, change_sound, touches, ready, bext_after, made_there, made_new}
+use Rattle.fadgi_rules.proofs.Views.{change_sound, touches, ready, bext_after, made_there, made_new}
 
 -- ---- the sign of a loudness text
 

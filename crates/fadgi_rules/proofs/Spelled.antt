@@ -1,11 +1,11 @@
 -- The text that is shown for the spelling of a text is one that passes the same tests.
-use Rattle.std.proofs.Common.{◌≡◌, ℕ, zero, suc, ◌+◌, ◌-◌, ◌*◌, ◌/◌, ◌%◌, ◌^◌, ◌<◌, ◌≤◌, List, [], ◌∷◌, ◌++◌, length, take, drop, get_or, replicate, Bool, true, false, cond, refl, sym, ap, ◌∙◌, arith, subst, Option, Some, None, codes, take_while}
-use Rattle.std.specs.Prelude.{not, ◌||◌, ◌&&◌, ◌==◌, ◌⊎◌, nat_le}
+use Rattle.std.proofs.Common.{◌≡◌, ℕ, zero, suc, List, [], ◌∷◌, ◌++◌, length, replicate, Bool, true, false, cond, refl, sym, ap, ◌∙◌, arith, Some, None, codes}
+use Rattle.std.specs.Prelude.{not, ◌||◌, ◌&&◌, ◌==◌, nat_le}
 use Rattle.std.specs.List.{list_any, list_all}
 use Rattle.std.specs.Char.{is_ascii_digit}
-use Rattle.std.proofs.lemmas.Bool.{and_parts, and_from, eqb-true, ne_eqb, eq-eqb, leb-true, cond-true, cond-false}
+use Rattle.std.proofs.lemmas.Bool.{and_parts, and_from, eqb-true, ne_eqb, leb-true, cond-true, cond-false}
 use Rattle.std.proofs.lemmas.List.Sums.{take_while-cons}
-use Rattle.field_model.specs.Dates.{fits, is_separator, has_form, number_at, date_exists, is_date, is_time, spelled_date, spelled_time}
+use Rattle.field_model.specs.Dates.{fits, has_form, number_at, date_exists, is_date, is_time, spelled_date, spelled_time}
 use Rattle.field_model.specs.Shown.{before_zero, unless_empty}
 use Rattle.field_model.proofs.Fits.{form_length}
 

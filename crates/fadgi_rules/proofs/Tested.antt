@@ -1,8 +1,8 @@
 -- Whether a rule fails for a name after an edit, by what the edit does to the name.
-use Rattle.std.proofs.Common.{◌≡◌, ℕ, zero, suc, ◌-◌, List, [], ◌∷◌, ◌++◌, length, replicate, Bool, true, false, cond, refl, sym, ap, ◌∙◌, arith, subst, Option, Some, None, inl, inr, codes}
-use Rattle.std.specs.Prelude.{◌||◌, ◌&&◌, ◌==◌, not, map, option_map, nat_le, nat_lt, ◌⊎◌, unwrap_or, IsTrue}
-use Rattle.std.specs.List.{list_any, list_all, filter_map, cons_option}
-use Rattle.std.proofs.lemmas.Bool.{cond-true, cond-false, and_parts, or_cases}
+use Rattle.std.proofs.Common.{◌≡◌, ℕ, ◌-◌, List, [], ◌∷◌, ◌++◌, length, Bool, true, false, refl, sym, ap, ◌∙◌, subst, Option, Some, None, inl, inr, codes}
+use Rattle.std.specs.Prelude.{◌||◌, ◌&&◌, ◌==◌, not, nat_lt, ◌⊎◌}
+use Rattle.std.specs.List.{list_any, list_all, cons_option}
+use Rattle.std.proofs.lemmas.Bool.{cond-true, cond-false, or_cases}
 use Rattle.part_tree.specs.declared.field.BextField.{BextField}
 use Rattle.part_tree.specs.declared.field.BextField.TheVariants.{Description, Originator, OriginatorReference, OriginationDate, OriginationTime, LoudnessRange, CodingHistory}
 use Rattle.part_tree.specs.declared.field.Change.{Change}
@@ -19,7 +19,7 @@ use Rattle.part_tree.specs.declared.names.Kind.TheVariants.{Wave, Rf64, Avi, Mov
 use Rattle.part_tree.specs.Letters.{four}
 use Rattle.part_tree.specs.Names.{same_name, info_ids}
 use Rattle.part_tree.proofs.Places.{same_is_equal}
-use Rattle.core_edit.specs.Edits.{AreSound, is_empty_set}
+use Rattle.core_edit.specs.Edits.{AreSound}
 use Rattle.field_model.specs.Bext.{form_of, width}
 use Rattle.field_model.specs.Broken.{some_text, shows_too_little, ends_with_zero}
 use Rattle.field_model.specs.Dates.{is_date, is_time, is_info_date, spelled_date, spelled_time}
@@ -27,8 +27,8 @@ use Rattle.field_model.specs.Fields.{FieldMap}
 use Rattle.field_model.specs.History.{is_history}
 use Rattle.field_model.specs.Lawful.{IsLawful}
 use Rattle.field_model.specs.Raw.{raw_of, raw_form, fits_width, padded}
-use Rattle.field_model.specs.Rules.{form_number, is_info, is_user, is_printable, is_bext_letter, is_too_wide}
-use Rattle.field_model.specs.Shown.{before_zero, unless_empty, shown_texts}
+use Rattle.field_model.specs.Rules.{form_number, is_info, is_user, is_printable}
+use Rattle.field_model.specs.Shown.{unless_empty, shown_texts}
 use Rattle.field_model.specs.Update.{update}
 use Rattle.fadgi_rules.specs.declared.row.FieldRule.{FieldRule}
 use Rattle.fadgi_rules.specs.declared.row.FieldRule.TheVariants as row

@@ -1,9 +1,8 @@
 -- The texts that a name shows after an edit, by what the edit does to the name.
-use Rattle.std.proofs.Common.{◌≡◌, ℕ, zero, suc, ◌-◌, List, [], ◌∷◌, ◌++◌, length, replicate, Bool, true, false, cond, refl, sym, ap, ◌∙◌, arith, subst, Option, Some, None, inl, inr, codes}
-use Rattle.std.specs.Prelude.{◌||◌, ◌&&◌, ◌==◌, not, option_map, nat_le, ◌⊎◌, unwrap_or}
-use Rattle.std.specs.List.{list_any, list_all, filter_map, cons_option}
-use Rattle.std.specs.Str.{bytes_eq}
-use Rattle.std.proofs.lemmas.Bool.{cond-true, cond-false, and_parts}
+use Rattle.std.proofs.Common.{◌≡◌, ℕ, List, [], ◌∷◌, length, replicate, Bool, true, false, cond, refl, sym, ap, ◌∙◌, subst, Option, Some, None, inl, inr}
+use Rattle.std.specs.Prelude.{◌||◌, ◌&&◌, ◌==◌, option_map, nat_le, unwrap_or}
+use Rattle.std.specs.List.{list_any, filter_map, cons_option}
+use Rattle.std.proofs.lemmas.Bool.{cond-true, cond-false}
 use Rattle.part_tree.specs.declared.field.BextField.{BextField}
 use Rattle.part_tree.specs.declared.field.BextField.TheVariants.{Version}
 use Rattle.part_tree.specs.declared.field.Change.{Change}
@@ -15,25 +14,23 @@ use Rattle.part_tree.specs.declared.field.Form.{Form}
 use Rattle.part_tree.specs.declared.field.Form.TheVariants.{Text, Date, Time, Count, Umid, Loudness, Reserved}
 use Rattle.part_tree.specs.declared.field.Form.TheVariants as form
 use Rattle.part_tree.specs.declared.field.Value.{Value}
-use Rattle.part_tree.specs.declared.names.FourCc.{FourCc}
 use Rattle.part_tree.specs.declared.names.Kind.{Kind}
 use Rattle.part_tree.specs.Names.{same_name}
 use Rattle.part_tree.proofs.Places.{same_is_equal}
 use Rattle.core_edit.specs.Edits.{AreSound, is_empty_set}
-use Rattle.field_model.specs.Bext.{form_of, width, blank, blank_form}
-use Rattle.field_model.specs.Dates.{is_date, is_time, spelled_date, spelled_time}
+use Rattle.field_model.specs.Bext.{form_of, width, blank_form}
 use Rattle.field_model.specs.Fields.{FieldMap, plain, version_of}
 use Rattle.field_model.specs.Lawful.{IsLawful}
-use Rattle.field_model.specs.Raw.{raw_of, raw_form, fits_width, padded}
+use Rattle.field_model.specs.Raw.{raw_of}
 use Rattle.field_model.specs.Shown.{before_zero, unless_empty, shown, shown_form, shown_texts}
-use Rattle.field_model.specs.Update.{RawItem, has_effect, written, raw_change, raw_items, listed, updated_values, is_bext, needed, made, raised_form, raised_values, update}
+use Rattle.field_model.specs.Update.{RawItem, has_effect, written, raw_items, listed, updated_values, is_bext, needed, made, raised_form, raised_values, update}
 use Rattle.fadgi_rules.specs.Changed.{change_in}
 use Rattle.fadgi_rules.specs.Items.{item_tests}
 use Rattle.fadgi_rules.specs.Present.{plain_text}
 use Rattle.fadgi_rules.proofs.After.{laid, after, values_after}
 use Rattle.fadgi_rules.proofs.Least.{item}
 use Rattle.fadgi_rules.proofs.Passes.{Passes, EffectsPass}
-use Rattle.fadgi_rules.proofs.Spelled.{HasNoZero, zeros_empty, text_before, text_alone}
+use Rattle.fadgi_rules.proofs.Spelled.{zeros_empty}
 
 -- ---- the item that changes a name
 

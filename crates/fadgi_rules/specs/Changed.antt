@@ -10,6 +10,7 @@ use Rattle.field_model.specs.Broken.{broken}
 use Rattle.field_model.specs.Fields.{FieldMap}
 use Rattle.field_model.specs.Update.{has_effect}
 
+-- the change of the first such item
 abbrev pub change_in : FieldMap → List EditItem → FieldName → Option Change
 change_in f [] name = None
 change_in f (item ∷ e) name = if same_name item.name name && has_effect f item then Some item.change else change_in f e name

@@ -14,6 +14,7 @@ use Rattle.field_model.specs.Update.{has_effect}
 abbrev pub ItemTest : Type 0
 ItemTest = EditItem → Bool
 
+-- a rule on texts, as a test of the item that sets one
 abbrev pub text_test : TextRule → ItemTest
 text_test rule item = set_fails rule item.name item.change
 
@@ -44,6 +45,7 @@ least_from n (fails ∷ tests) item = if fails item then Some n else least_from 
 abbrev pub item_rule : Kind → EditItem → Option ℕ
 item_rule kind item = least_from 1 (item_tests kind) item
 
+-- a broken rule, and the field that breaks it
 abbrev pub found : ℕ → FieldName → Broken
 found n name = record { rule = n; field = name }
 
@@ -55,6 +57,7 @@ item_broken kind f item = if has_effect f item then option_map (λ n. found n it
 abbrev pub comes_first : Broken → Broken → Bool
 comes_first a b = nat_lt a.rule b.rule || ((a.rule == b.rule) && nat_le (field_place a.field) (field_place b.field))
 
+-- of two that may be broken the one that comes first
 abbrev pub first_of_two : Option Broken → Option Broken → Option Broken
 first_of_two None b = b
 first_of_two (Some a) None = Some a

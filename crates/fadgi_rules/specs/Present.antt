@@ -1,5 +1,5 @@
 -- The texts that fields show as they stand.
-use Rattle.std.specs.Prelude.{◌≡◌, ℕ, List, [], ◌∷◌, length, Bool, true, false, ◌&&◌, nat_le, Option, Some, None, is_some, ◌⊎◌}
+use Rattle.std.specs.Prelude.{◌≡◌, ℕ, List, [], length, Bool, false, ◌&&◌, nat_le, Option, Some, None, is_some, ◌⊎◌}
 use Rattle.me_bytes.specs.Bytes.{le}
 use Rattle.part_tree.specs.declared.field.BextField.{BextField}
 use Rattle.part_tree.specs.declared.field.BextField.TheVariants.{LoudnessRange, Version}
@@ -18,6 +18,7 @@ plain_text (Info id) raw = Some (before_zero raw)
 plain_text (Whole id) raw = Some raw
 plain_text (User id) raw = Some raw
 
+-- whether there is a text for which a rule fails
 abbrev pub option_fails : FieldRule → Option (List ℕ) → Bool
 option_fails rule None = false
 option_fails rule (Some text) = text_fails rule text
@@ -26,6 +27,7 @@ option_fails rule (Some text) = text_fails rule text
 abbrev pub value_fails : FieldRule → FieldName → Value → Bool
 value_fails rule name value = option_fails rule (plain_text name value.raw)
 
+-- whether a value shows a text
 abbrev pub shows_text : FieldName → Value → Bool
 shows_text name value = is_some (plain_text name value.raw)
 
@@ -33,6 +35,7 @@ shows_text name value = is_some (plain_text name value.raw)
 abbrev pub number : FieldMap → BextField → ℕ
 number f field = le (first_raw (f (Bext field)))
 
+-- a field of bext is not there, or its first value has two bytes
 abbrev pub HasTwoBytes : FieldMap → BextField → Type 0
 HasTwoBytes f field = (f (Bext field) ≡ []) ⊎ (length (first_raw (f (Bext field))) ≡ 2)
 

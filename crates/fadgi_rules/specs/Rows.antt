@@ -1,5 +1,5 @@
 -- The rules on fields, one by one.
-use Rattle.std.specs.Prelude.{ℕ, List, [], ◌∷◌, length, filter, Bool, true, false, not, ◌==◌, nat_lt, IsTrue, Option, Some, None, codes}
+use Rattle.std.specs.Prelude.{ℕ, List, [], ◌∷◌, length, Bool, true, false, not, ◌==◌, nat_lt, IsTrue, Option, Some, None, codes}
 use Rattle.std.specs.List.{list_all, list_any}
 use Rattle.part_tree.specs.declared.field.BextField.TheVariants.{Description, Originator, OriginatorReference, OriginationDate, OriginationTime, LoudnessRange, CodingHistory}
 use Rattle.part_tree.specs.declared.field.Change.{Change}
@@ -34,6 +34,7 @@ number row.HasDescription = 22
 number row.HasOriginator = 23
 number row.HasDate = 24
 
+-- the set that a rule belongs to
 abbrev pub set_of : FieldRule → RuleSet
 set_of row.History = set.Ebu
 set_of row.Date = set.Ebu
@@ -75,6 +76,7 @@ fails row.HasDescription = shows_too_little
 fails row.HasOriginator = shows_too_little
 fails row.HasDate = shows_too_little
 
+-- a rule on fields as the model has it
 abbrev pub rule_of : FieldRule → Rule
 rule_of r = record { set = set_of r; test = on_fields (fields_of r) (fails r) }
 

@@ -13,6 +13,8 @@ mod item;
 mod present;
 mod row;
 mod table;
+#[cfg(test)]
+mod tests;
 mod text;
 
 use core_edit::Edit;
@@ -24,7 +26,7 @@ use std::alloc::Global;
 pub use table::{RULES, RuleRow};
 
 /// The first rule of the chosen sets that an edit breaks, with the first field in field order that breaks it. None where it
-/// breaks none.
+/// breaks none. It takes no memory.
 pub fn first_broken(kind: Kind, fields: &Fields, edit: &Edit, rules: RuleSet) -> Option<Broken>
     requires { IsLawful (values fields.now) }
     ensures { result ≡ spec.broken kind (values fields.now) edit.now rules }
@@ -37,7 +39,7 @@ pub fn first_broken(kind: Kind, fields: &Fields, edit: &Edit, rules: RuleSet) ->
 }
 
 /// Each rule of the chosen sets that fields break without an edit, and each field that breaks it: by rule, then in field
-/// order.
+/// order. `NoMemory` where the list doesn't fit.
 pub fn all_broken(
     alloc: Global,
     kind: Kind,

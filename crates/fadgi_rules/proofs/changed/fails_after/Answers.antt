@@ -1,6 +1,4 @@
-use Rattle.std.proofs.Common.{◌≡◌, ◌∙◌, sym, ap, Option, Some, None, rules, List, ℕ}
-use Rattle.std.specs.Prelude.{option_copied}
-use Rattle.part_tree.specs.declared.field.Change.{Change}
+use Rattle.std.proofs.Common.{◌≡◌, ◌∙◌, sym, ap, Some, None, rules}
 use Rattle.part_tree.specs.declared.field.Change.TheVariants.{Set, Remove}
 use Rattle.part_tree.specs.Fields.{values}
 use Rattle.fadgi_rules.specs.Changed.{change_in}

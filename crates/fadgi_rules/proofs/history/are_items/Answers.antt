@@ -1,4 +1,4 @@
-use Rattle.std.proofs.Common.{◌≡◌, ◌∙◌, ◌+◌, sym, ap, drop, refl, arith}
+use Rattle.std.proofs.Common.{◌∙◌, sym, refl, arith}
 use Rattle.std.proofs.lemmas.List.{length-set}
 use Rattle.fadgi_rules.proofs.Pieces.{items_first, items_stale, items_end, items_next, place_after}
 use Rattle.fadgi_rules.proofs.history.are_items.Goals as goal

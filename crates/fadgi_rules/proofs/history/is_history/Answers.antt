@@ -1,4 +1,4 @@
-use Rattle.std.proofs.Common.{◌≡◌, ◌∙◌, ◌+◌, ◌&&◌, Bool, sym, ap, drop}
+use Rattle.std.proofs.Common.{◌∙◌, ◌+◌, ◌&&◌, Bool, sym, ap, drop}
 use Rattle.field_model.specs.History.{pieces, are_lines}
 use Rattle.fadgi_rules.proofs.Pieces.{lines_next, lines_end, place_after}
 use Rattle.fadgi_rules.proofs.history.is_history.Goals as goal

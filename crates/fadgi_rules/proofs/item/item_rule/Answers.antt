@@ -1,4 +1,4 @@
-use Rattle.std.proofs.Common.{◌∙◌, ◌≡◌, ap, true, List, ℕ, rules}
+use Rattle.std.proofs.Common.{◌∙◌, ◌≡◌, ap, true, rules}
 use Rattle.part_tree.specs.declared.field.Change.TheVariants.{Set}
 use Rattle.field_model.specs.Broken.{has_field}
 use Rattle.field_model.specs.Rules.{text_rule}

@@ -1,6 +1,5 @@
-use Rattle.std.proofs.Common.{◌≡◌, ◌∙◌, sym, ap, rules, List, Bool, true, not, ◌||◌}
+use Rattle.std.proofs.Common.{◌∙◌, sym, ap, Bool, not, ◌||◌}
 use Rattle.std.specs.List.{list_any}
-use Rattle.part_tree.specs.declared.field.Value.{Value}
 use Rattle.part_tree.specs.Fields.{values}
 use Rattle.fadgi_rules.specs.Present.{value_fails, shows_text}
 use Rattle.fadgi_rules.proofs.Now.{lack_now, text_now, negative_now}

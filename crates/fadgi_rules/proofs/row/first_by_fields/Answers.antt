@@ -1,4 +1,4 @@
-use Rattle.std.proofs.Common.{◌≡◌, ◌∙◌, ◌<◌, sym, ap, arith, Some, None, drop, get_or, length, rules}
+use Rattle.std.proofs.Common.{◌≡◌, ◌∙◌, sym, ap, arith, Some, None, get_or}
 use Rattle.part_tree.specs.Fields.{values}
 use Rattle.field_model.specs.Broken.{first_found}
 use Rattle.fadgi_rules.specs.declared.row.TheConstants.{FIELD_RULES}

@@ -1,7 +1,5 @@
-use Rattle.std.proofs.Common.{◌≡◌, ◌∙◌, sym, ap, ℕ, true, Some, Option, rules}
+use Rattle.std.proofs.Common.{◌≡◌, ◌∙◌, sym, ap, ℕ, true, Some, rules}
 use Rattle.std.specs.Prelude.{filter, option_map}
-use Rattle.part_tree.specs.declared.field.FieldName.{FieldName}
-use Rattle.part_tree.specs.declared.field.RuleSet.{RuleSet}
 use Rattle.part_tree.specs.Fields.{values}
 use Rattle.field_model.specs.Broken.{chooses}
 use Rattle.field_model.specs.Update.{update}
