@@ -1,0 +1,12 @@
+//! From the places of a WAVE or RF64 form to the plan of an edit: what stands round the form's chunks is changed with them, and
+//! what is too large is told. It doesn't know what an edit makes of a chunk.
+#![tactic(auto)]
+
+mod fault;
+mod frame;
+mod framed;
+mod plan;
+
+pub use fault::PlanFault;
+pub use frame::{Frame, read_frame};
+pub use plan::{Passed, plan_units};
