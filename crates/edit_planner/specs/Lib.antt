@@ -1,3 +1,4 @@
 pub mod Cells
 pub mod Row
 pub mod Lists
+pub mod Stand

@@ -5,6 +5,7 @@
 mod bext;
 mod cells;
 mod lists;
+mod load;
 mod wholes;
 
 pub use cells::{CellAt, Content};
