@@ -4,4 +4,6 @@ pub mod WholeChunks
 pub mod BextChunk
 pub mod InfoLists
 pub mod Stands
+pub mod Loads
+pub mod Shaped
 pub mod Unmet

@@ -1,6 +1,6 @@
 -- What stands where something was edited meets no test of another part of the edit.
 use Rattle.std.proofs.Common.{◌≡◌, ◌∙◌, ℕ, zero, suc, Bool, true, false, List, [], ◌∷◌, map, refl, sym, ap}
-use Rattle.std.specs.Prelude.{◌&&◌, Option, Some, None, codes}
+use Rattle.std.specs.Prelude.{◌&&◌, Option, Some, None, codes, if◌then◌else◌}
 use Rattle.std.specs.Str.{bytes_eq}
 use Rattle.std.specs.List.{flat_map, AllByRecursion}
 use Rattle.part_tree.specs.declared.field.Value.{Value}
@@ -8,14 +8,19 @@ use Rattle.part_tree.specs.Names.{whole_ids}
 use Rattle.field_model.specs.Update.{RawItem}
 use Rattle.container_model.specs.Chunk.{Chunk}
 use Rattle.container_model.specs.Units.{Cell, kept, gap, edited, live}
-use Rattle.carrier_model.specs.Cells.{acted_cells}
-use Rattle.carrier_model.specs.Info.{own_size, one_of, made}
+use Rattle.container_model.specs.Items.{Item}
+use Rattle.container_model.proofs.Items.{same_true}
+use Rattle.field_model.specs.Bext.{new_body}
+use Rattle.field_model.specs.Body.{edited_bext}
+use Rattle.carrier_model.specs.Cells.{leave, become, never, acted_cells}
+use Rattle.carrier_model.specs.Lists.{items_of, all_items, home, concerns, has_carrier, sets_some, new_carrier, lists_act, lists_act_by}
+use Rattle.carrier_model.specs.Info.{own_size, one_of, made, info, info_items}
 use Rattle.carrier_model.proofs.Cells.{Makes, made_by}
 use Rattle.wave_model.specs.Fields.{is_bext, is_info, is_whole}
-use Rattle.wave_model.specs.Carry.{Step, first_becomes, whole_by, whole_act, whole_part, some_chunk, carried}
+use Rattle.wave_model.specs.Carry.{Step, steps, info_part, bext_act, bext_by, edits_bext, first_becomes, whole_by, whole_act, whole_part, some_chunk, carried}
 use Rattle.wave_model.proofs.Steps.{NowCells, now_carried}
 use Rattle.edit_planner.specs.declared.cells.CellAt.{CellAt}
-use Rattle.edit_planner.specs.Cells.{NoWholes, Unmet, told_row}
+use Rattle.edit_planner.specs.Cells.{NoWholes, Unedited, Unmet, told_row}
 
 unmet_now : (p : Chunk → Bool) (xs : List Cell) → Unmet p xs → NowCells (λ c. p c ≡ false) xs
 unmet_now p [] u = tt
@@ -72,3 +77,59 @@ wholes_done e from xs y0 y1 y2 y3 y4 a b c d none is =
     let m2 : Unmet (is_whole (codes "MD5 ")) x2 = unmet_acted (is_whole (codes "MD5 ")) (step (codes "iXML")) (other_whole (codes "MD5 ") (codes "iXML") e refl) x1 m1 in
     let m3 : Unmet (is_whole (codes "MD5 ")) x3 = unmet_acted (is_whole (codes "MD5 ")) (step (codes "_PMX")) (other_whole (codes "MD5 ") (codes "_PMX") e refl) x2 m2 in
     d x3 m3 (c x2 p2 (b x1 i1 (a xs (none (codes "axml")) is)))
+
+-- ---- all parts of an edit
+
+no_whole_made : (w v raw : List ℕ) → one_of whole_ids v ≡ false → is_whole w (made v raw) ≡ false
+no_whole_made w v raw h = go (bytes_eq w v) refl
+  where
+    go : (t : Bool) → bytes_eq w v ≡ t → (one_of whole_ids w && t) ≡ false
+    go true e = ap (λ (x : List ℕ). one_of whole_ids x && true) (same_true w v e) ∙ ap (λ (t : Bool). t && true) h
+    go false e = and_no (one_of whole_ids w)
+
+pub bext_makes : (p : Chunk → Bool) (e : List RawItem) → ((raw : List ℕ) → p (made (codes "bext") raw) ≡ false) → (cs : List Chunk) → Makes (λ c. p c ≡ false) (bext_act e cs)
+bext_makes p e h cs = go (edits_bext e) (some_chunk is_bext cs)
+  where
+    go : (t u : Bool) → Makes (λ c. p c ≡ false) (bext_by e t u)
+    go false u = tt
+    go true true = λ n c. (h (edited_bext e c.body), tt)
+    go true false = h (edited_bext e new_body)
+
+pub lists_make : (p : Chunk → Bool) (e : List (Item (List ℕ))) → ((raw : List ℕ) → p (made (codes "LIST") raw) ≡ false) → (cs : List Chunk) → Makes (λ c. p c ≡ false) (lists_act info info_items never e cs)
+lists_make p e h cs = go (has_carrier info cs)
+  where
+    fresh : (b : Bool) → Makes (λ c. p c ≡ false) (new_carrier info info_items never e b)
+    fresh true = h _
+    fresh false = tt
+
+    one : (t : Bool) (raw : List ℕ) → AllByRecursion (λ c. p c ≡ false) (made_by (if t then become (made (codes "LIST") raw ∷ []) else leave))
+    one true raw = (h raw, tt)
+    one false raw = tt
+
+    go : (b : Bool) → Makes (λ c. p c ≡ false) (lists_act_by info info_items never e cs b)
+    go false = fresh (sets_some e)
+    go true = λ n c. one (concerns (home (all_items info info_items cs)) n (items_of info info_items c) e) _
+
+unedited_unmet : (p : Chunk → Bool) (xs : List Cell) → Unedited xs → Unmet p xs
+unedited_unmet p [] u = tt
+unedited_unmet p (kept c ∷ xs) u = unedited_unmet p xs u
+unedited_unmet p (gap c ∷ xs) u = unedited_unmet p xs u
+unedited_unmet p (edited old now ∷ xs) u = absurd u
+
+pub lists_met : (e : List RawItem) (xs : List Cell) → Unedited xs → Unmet is_info (acted_cells (bext_act e (flat_map live xs)) xs)
+lists_met e xs u = unmet_acted is_info (bext_act e) (bext_makes is_info e (λ raw. refl)) xs (unedited_unmet is_info xs u)
+
+pub wholes_met : (e : List RawItem) (xs : List Cell) → Unedited xs → (x1 : List Cell) → x1 ≡ acted_cells (bext_act e (flat_map live xs)) xs → NoWholes (acted_cells (lists_act info info_items never (info_part e) (flat_map live x1)) x1)
+wholes_met e xs u x1 is w =
+    let first : Unmet (is_whole w) x1 = rw is (unmet_acted (is_whole w) (bext_act e) (bext_makes (is_whole w) e (λ raw. no_whole_made w (codes "bext") raw refl)) xs (unedited_unmet (is_whole w) xs u)) in
+    unmet_acted (is_whole w) (lists_act info info_items never (info_part e)) (lists_make (is_whole w) (info_part e) (λ raw. no_whole_made w (codes "LIST") raw refl)) x1 first
+
+pub all_done : (e : List RawItem) (from : ℕ) (xs : List Cell) (y0 y1 y2 y3 : List CellAt) → Unedited xs → y0 ≡ told_row from xs
+    → ((xs : List Cell) → Unedited xs → y0 ≡ told_row from xs → y1 ≡ told_row from (acted_cells (bext_act e (flat_map live xs)) xs))
+    → ((xs : List Cell) → Unmet is_info xs → y1 ≡ told_row from xs → y2 ≡ told_row from (acted_cells (lists_act info info_items never (info_part e) (flat_map live xs)) xs))
+    → ((xs : List Cell) → NoWholes xs → y2 ≡ told_row from xs → y3 ≡ told_row from (carried (map (λ w. whole_act w e) whole_ids) xs))
+    → y3 ≡ told_row from (carried (steps e) xs)
+all_done e from xs y0 y1 y2 y3 u is a b c =
+    let x1 : List Cell = acted_cells (bext_act e (flat_map live xs)) xs in
+    let x2 : List Cell = acted_cells (lists_act info info_items never (info_part e) (flat_map live x1)) x1 in
+    c x2 (wholes_met e xs u x1 refl) (b x1 (lists_met e xs u) (a xs u is))

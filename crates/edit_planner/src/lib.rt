@@ -4,8 +4,10 @@
 
 mod bext;
 mod cells;
+mod edit;
 mod lists;
 mod load;
+mod places;
 mod wholes;
 
 pub use cells::{CellAt, Content};

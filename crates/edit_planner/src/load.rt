@@ -145,3 +145,45 @@ fn load_cell<D: Depot>(
         content,
     })
 }
+
+/// The cells of a form, and the byte where the last one ends.
+#[derive(Debug, Drop)]
+pub struct Loaded {
+    pub cells: Vec<CellAt>,
+    pub end: u64,
+}
+
+/// Reads the cells of parts, the first of which begins at the byte `from`. Bodies of `bext` and of lists are read, and no
+/// others.
+pub fn load_cells<D: Depot>(
+    alloc: Global,
+    depot: &mut D,
+    parts: &[Part],
+    from: u64,
+    form_end: u64,
+) -> Result<Loaded, LoadFault>
+    requires ascend { Ascend from parts.now form_end }
+    requires inside { Inside form_end (D.disk depot.old) }
+    requires small { form_end < 2 ^ 63 }
+    ensures cells { (b : List ℕ) → Holds (D.disk depot.old) b → (cs : List Chunk) → parts.now ≡ along part_at from cs → StandFrom b from cs → IfOk result (λ l. l.cells.items ≡ told_chunks from cs) }
+    ensures follow { IfOk result (λ l. Follow from l.cells.items l.end) }
+    ensures end { IfOk result (λ l. (from ≤ l.end) × (l.end ≤ form_end)) }
+    ensures readable { IfOk result (λ l. AreReadable l.cells.items) }
+    ensures reads { ReadsOnly (D.disk depot.old) (D.disk depot.new) }
+    ensures cause { result ≡ Err LoadFault.Depot → Rose (D.disk depot.old).faults (D.disk depot.new).faults }
+{
+    let mut cells = Vec::new(alloc);
+    let mut at = from;
+    'parts: for part in parts {
+        let cell = match load_cell(alloc, depot, part, at) {
+            Err(fault) => return Err(fault),
+            Ok(cell) => cell,
+        };
+        at = part.next;
+        match cells.push(cell) {
+            Err(_) => return Err(LoadFault::Memory),
+            Ok(()) => {}
+        }
+    }
+    Ok(Loaded { cells, end: at })
+}
