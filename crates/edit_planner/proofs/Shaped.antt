@@ -32,11 +32,16 @@ use Rattle.wave_model.proofs.Read.{most, OfRiff, IsRead}
 use Rattle.wave_model.proofs.Steps.{was_carried, gaps_carried}
 use Rattle.wave_file.specs.Map.{Ascend, all_parts, at_front, part_as, part_at, role_of, sizes_at}
 use Rattle.unit_plan.specs.Shapes.{Shape, stays, pads, changes, parts_in, shape_of}
-use Rattle.unit_plan.specs.Places.{shape_in}
+use Rattle.unit_plan.specs.Places.{Follow, shape_in}
 use Rattle.unit_plan.specs.declared.place.Place.{Place}
 use Rattle.edit_planner.specs.declared.cells.CellAt.{CellAt}
 use Rattle.edit_planner.specs.declared.cells.Content.{Content}
 use Rattle.edit_planner.specs.declared.cells.Content.TheVariants.{Kept, Body, Listed, Gap, Edited}
+use Rattle.field_model.specs.Update.{RawItem}
+use Rattle.wave_model.specs.Carry.{steps}
+use Rattle.edit_planner.specs.declared.wave.PlaceRow.{PlaceRow}
+use Rattle.edit_planner.specs.Places.{IsRowOf, begins_at, first_child, is_sizes}
+use Rattle.edit_planner.specs.Cells as cells
 use Rattle.edit_planner.specs.Cells.{Unedited, content_of, list_in, part_count, told, told_row}
 use Rattle.edit_planner.specs.Stand.{StandsAt, StandFrom, cell_at, told_chunks, placed, count_of, what_of}
 
@@ -227,3 +232,94 @@ places_told b s ss cells places p e =
     let gaps = gaps_carried (λ c. is_info c ≡ false) ss xs (gaps_cells (λ c. is_info c ≡ false) (λ c h. padding_no_list (codes "INFO") c h) w.ds64 w.children) in
     ap (map (shape_in b)) (p ∙ ap (map placed) e)
     ∙ shapes b s.front s.rest (children_at w) (carried ss xs) (s.whole ∙ ap (λ (cs : List Chunk). s.front ++ (spell_all cs ++ s.rest)) (sym chunks)) s.len gaps
+
+-- ---- where the children begin
+
+no_sizes : (at : ℕ) (r : Role) → is_sizes r ≡ false → is_sizes (at_front at r) ≡ false
+no_sizes at Padding e = go (at == 12)
+  where
+    go : (t : Bool) → is_sizes (if t then Opaque else Padding) ≡ false
+    go true = refl
+    go false = refl
+no_sizes at Opaque e = refl
+no_sizes at Bext e = refl
+no_sizes at Info e = refl
+no_sizes at Whole e = refl
+no_sizes at Sizes e = absurd cc
+no_sizes at Tables e = refl
+no_sizes at UserData e = refl
+no_sizes at Essence e = refl
+no_sizes at Rest e = refl
+
+role_no_sizes : (c : Chunk) → is_sizes (role_of c) ≡ false
+role_no_sizes c = go (is_info c) (Rattle.wave_file.specs.Map.is_field c) (is_bext c) (Rattle.wave_model.specs.Why.is_data c) (is_padding c)
+  where
+    go : (l w e d p : Bool) → is_sizes (if l then Info else (if w then Whole else (if e then Bext else (if d then Essence else (if p then Padding else Opaque))))) ≡ false
+    go true w e d p = refl
+    go false true e d p = refl
+    go false false true d p = refl
+    go false false false true p = refl
+    go false false false false true = refl
+    go false false false false false = refl
+
+pub record Starts (ds cs : List Chunk) (ps : List Part) : Type 0 where
+  pub rest : drop (first_child ps) ps ≡ along part_at (12 + length (spell_all ds)) cs
+  pub begin : begins_at ps ≡ 12 + length (spell_all ds)
+
+starts_none : (cs : List Chunk) → Starts [] cs (along part_at 12 cs)
+starts_none [] = record { rest = refl; begin = refl }
+starts_none (c ∷ cs) = let no = no_sizes 12 (role_of c) (role_no_sizes c) in record { rest = rw no refl; begin = rw no refl }
+
+starts_one : (d : Chunk) (cs : List Chunk) → Starts (d ∷ []) cs (along sizes_at 12 (d ∷ []) ++ along part_at (12 + length (spell_all (d ∷ []))) cs)
+starts_one d cs = record { rest = refl; begin = ap (λ (x : List ℕ). 12 + length x) (sym (append-nil (spell d))) }
+
+firsts_short : (t : Bool) (cs : List Chunk) → (firsts t cs ≡ []) ⊎ ((d : Chunk) × (firsts t cs ≡ d ∷ []))
+firsts_short true [] = inl refl
+firsts_short true (c ∷ cs) = inr (c, refl)
+firsts_short false cs = inl refl
+
+starts_by : (ds cs : List Chunk) → (ds ≡ []) ⊎ ((d : Chunk) × (ds ≡ d ∷ [])) → Starts ds cs (along sizes_at 12 ds ++ along part_at (12 + length (spell_all ds)) cs)
+starts_by ds cs (inl e) = subst (λ (xs : List Chunk). Starts xs cs (along sizes_at 12 xs ++ along part_at (12 + length (spell_all xs)) cs)) (sym e) (starts_none cs)
+starts_by ds cs (inr e) = subst (λ (xs : List Chunk). Starts xs cs (along sizes_at 12 xs ++ along part_at (12 + length (spell_all xs)) cs)) (sym e.1) (starts_one e.0 cs)
+
+pub starts_told : (b : List ℕ) (ps : List Part) → ps ≡ all_parts (wave_of b) → Starts (wave_of b).ds64 (wave_of b).children ps
+starts_told b ps e = subst (Starts (wave_of b).ds64 (wave_of b).children) (sym e) (starts_by (wave_of b).ds64 (wave_of b).children (firsts_short (is_big (take 4 b)) (Rattle.wave_model.specs.Wave.form_run b).chunks))
+
+-- whatever the file
+pub ascend_from : (ps : List Part) (end : ℕ) → Ascend 12 ps end → Ascend (begins_at ps) (drop (first_child ps) ps) end × (12 ≤ begins_at ps)
+ascend_from [] end h = (h, omega arith)
+ascend_from (p ∷ ps) end h = go (is_sizes p.role)
+  where
+    go : (t : Bool) → Ascend (if t then p.next else 12) (drop (if t then 1 else 0) (p ∷ ps)) end × (12 ≤ (if t then p.next else 12))
+    go true = (h.3, omega (arith, h.0, h.1, h.2))
+    go false = (h, omega arith)
+
+pub first_inside : (ps : List Part) → first_child ps ≤ length ps
+first_inside [] = omega arith
+first_inside (p ∷ ps) = go (is_sizes p.role)
+  where
+    go : (t : Bool) → (if t then 1 else 0) ≤ suc (length ps)
+    go true = omega arith
+    go false = omega arith
+
+-- places follow each other as their cells do
+pub places_follow : (at : ℕ) (xs : List CellAt) (end : ℕ) → cells.Follow at xs end → Follow at (map placed xs) end
+places_follow at [] end h = h
+places_follow at (x ∷ xs) end h = (h.0, h.1, h.2, places_follow x.next xs end h.3)
+
+pub row_told : (b : List ℕ) (e : List RawItem) (r : PlaceRow) (before cells : List CellAt) (parts ps : List Part) (n : ℕ) → IsBytes b → Supported b → parts ≡ all_parts (wave_of b) → n ≡ begins_at parts → ps ≡ drop (first_child parts) parts
+    → r.from ≡ n → ((cs : List Chunk) → ps ≡ along part_at n cs → StandFrom b n cs → before ≡ told_chunks n cs)
+    → ((xs : List Cell) → Unedited xs → before ≡ told_row n xs → cells ≡ told_row n (carried (steps e) xs)) → r.places.items ≡ map placed cells → IsRowOf b e r
+row_told b e r before cells parts ps n bytes sup all begin slice from load edit places =
+    let w = wave_of b in
+    let s = split_of b bytes sup in
+    let st = starts_told b parts all in
+    let here : n ≡ children_at w = begin ∙ st.begin in
+    let rest : ps ≡ along part_at n w.children = slice ∙ st.rest ∙ ap (λ (m : ℕ). along part_at m w.children) (sym here) in
+    let loaded : before ≡ told_chunks n w.children = load w.children rest (subst (λ (m : ℕ). StandFrom b m w.children) (sym here) (children_stand b s)) in
+    let row : before ≡ told_row n (cells_of w) = loaded ∙ ap (λ (m : ℕ). told_chunks m w.children) here ∙ sym (cells_told b s) ∙ ap (λ (m : ℕ). told_row m (cells_of w)) (sym here) in
+    let done : cells ≡ told_row (children_at w) (carried (steps e) (cells_of w)) = edit (cells_of w) (cells_unedited w.ds64 w.children) row ∙ ap (λ (m : ℕ). told_row m (carried (steps e) (cells_of w))) here in
+    record { begins = from ∙ here; shapes = places_told b s (steps e) cells r.places.items places done }
+
+pub tail_of : (k : ℕ) (ps : List Part) → take (length ps - k) (drop k ps) ≡ drop k ps
+tail_of k ps = Rattle.std.proofs.lemmas.List.take_all (length ps - k) (drop k ps) (omega (arith, Rattle.std.proofs.lemmas.List.length-drop k ps))

@@ -2,3 +2,4 @@ pub mod Cells
 pub mod Row
 pub mod Lists
 pub mod Stand
+pub mod Places

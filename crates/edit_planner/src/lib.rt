@@ -8,6 +8,7 @@ mod edit;
 mod lists;
 mod load;
 mod places;
+mod wave;
 mod wholes;
 
-pub use cells::{CellAt, Content};
+pub use wave::{PlaceFault, PlaceRow, places_of};
