@@ -1,5 +1,5 @@
 // Whether a rule on fields fails after an edit, by the item that changes the field.
-ghost use Rattle.std.specs.Prelude.{◌≡◌, ◌==◌, ◌||◌, not, length, nat_lt, None, option_copied};
+ghost use Rattle.std.specs.Prelude.{◌≡◌, option_copied};
 ghost use Rattle.part_tree.specs.Fields.{values};
 ghost use Rattle.field_model.specs.Lawful.{IsLawful};
 ghost use Rattle.field_model.specs.Update.{update};

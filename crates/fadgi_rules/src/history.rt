@@ -1,7 +1,6 @@
 // The coding history, as EBU Recommendation R98 writes it.
-ghost use Rattle.std.specs.Prelude.{◌≡◌, ◌≤◌, ◌||◌, ◌==◌, length, IsTrue};
+ghost use Rattle.std.specs.Prelude.{◌≡◌, ◌≤◌, ◌==◌, length, IsTrue, codes};
 ghost use Rattle.std.specs.List.{list_any};
-ghost use Rattle.std.specs.Prelude.{codes};
 ghost use Rattle.field_model.specs.History as spec;
 ghost use Rattle.fadgi_rules.specs.Lines.{is_fresh as spec_is_fresh};
 

@@ -1,9 +1,8 @@
 // Whether a rule fails for fields as they stand.
-ghost use Rattle.std.specs.Prelude.{◌≡◌, ◌==◌, ◌||◌, ◌&&◌, not, length, nat_lt, nat_le, None, Option, option_copied};
+ghost use Rattle.std.specs.Prelude.{◌≡◌, not, option_copied};
 ghost use Rattle.std.specs.List.{list_any};
 ghost use Rattle.part_tree.specs.Fields.{values};
 ghost use Rattle.field_model.specs.Broken as spec;
-ghost use Rattle.field_model.specs.Fields.{version_of};
 ghost use Rattle.field_model.specs.Lawful.{IsLawful};
 ghost use Rattle.fadgi_rules.specs.Present as present;
 ghost use Rattle.fadgi_rules.specs.Rows as rows;
