@@ -5,6 +5,7 @@
 mod checksum;
 mod line;
 mod rules;
+mod show;
 #[cfg(test)]
 mod tests;
 mod text;
@@ -12,3 +13,4 @@ mod text;
 pub use checksum::{md5_findings, md5_text, sound_md5};
 pub use line::{Line, Summary, done_line};
 pub use rules::validate_text;
+pub use show::{ReportFault, show_text};

@@ -1,24 +1,11 @@
 // The lines of broken rules.
 ghost use Rattle.std.specs.Prelude.{◌≡◌, ◌++◌, ◌<◌, ◌^◌, length, IfOk, OnOk};
 ghost use Rattle.std.specs.List.{flat_map};
-ghost use Rattle.field_model.specs.Texts as spec;
-ghost use Rattle.me_report.specs.Lines.{or_nothing};
 ghost use Rattle.me_report.specs.Findings.{finding_line, findings_text};
 
-use crate::text::{put, put_count};
-use core_edit::name_text;
-use part_tree::{Broken, Bytes, FieldName, NoMemory, rule_name};
+use crate::text::{put, put_count, put_name};
+use part_tree::{Broken, Bytes, NoMemory, rule_name};
 use std::alloc::Global;
-
-// Appends the text of a name, where it has one.
-fn put_name(alloc: Global, out: &mut Vec<u8>, name: &FieldName) -> Result<(), NoMemory>
-    ensures { OnOk result (out.new.items ≡ out.old.items ++ or_nothing (spec.name_text name.now)) }
-{
-    match name_text(alloc, name)? {
-        Some(text) => put(out, text.as_slice()),
-        None => Ok(()),
-    }
-}
 
 fn put_finding(alloc: Global, out: &mut Vec<u8>, broken: &Broken) -> Result<(), NoMemory>
     ensures { OnOk result (out.new.items ≡ out.old.items ++ finding_line broken.now) }

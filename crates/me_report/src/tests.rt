@@ -1,7 +1,16 @@
 // Worked rows.
-use crate::{Summary, done_line, md5_findings, md5_text, sound_md5, validate_text};
+ghost use Rattle.std.specs.Prelude.{◌≡◌, [], OnOk, IfOk};
+ghost use Rattle.part_tree.specs.declared.field.BextField.{BextField};
+ghost use Rattle.part_tree.specs.declared.field.FieldName.TheVariants.{Bext, Info};
+ghost use Rattle.part_tree.specs.Fields.{values};
+ghost use Rattle.part_tree.specs.Letters.{four};
+ghost use Rattle.part_tree.specs.Names.{IsFieldName};
+
+use crate::{Summary, done_line, md5_findings, md5_text, show_text, sound_md5, validate_text};
 use me_disk::{Run, SparseDepot};
-use part_tree::{BextField, Broken, Bytes, FieldName, Fields, FourCc, Span, Value};
+use part_tree::{
+    BextField, Broken, Bytes, FieldName, Fields, FourCc, Kind, NoMemory, Shows, Span, Track, Value,
+};
 use std::alloc::Global;
 use std::test::Fail;
 
@@ -136,6 +145,97 @@ fn stored_checksums(rt: HostRuntime) -> Result<(), Fail> {
     let text = md5_text(rt.alloc(), &fields, Some(ABC))?;
     let lines =
         "stored 900150983cd24fb0d6963f7d28e17f72\nstored 00000000000000000000000000000000\nstored \ncomputed 900150983cd24fb0d6963f7d28e17f72\n";
+    assert_eq!(rt; text.as_slice(), lines.as_bytes());
+    Ok(())
+}
+
+// A map of a file with four bytes of sound.
+#[derive(Drop)]
+struct Map {
+    kind: Kind,
+    fields: Fields,
+    entries: Option<u64>,
+}
+
+impl Shows for Map {
+    ghost told = { λ m. record { kind = m.kind; payload = 4; fields = m.fields; entries = m.entries; tracks = []; mdats = [] } };
+
+    fn kind(&self) -> Kind {
+        self.kind
+    }
+
+    fn payload(&self) -> u64 {
+        4
+    }
+
+    fn fields(&self) -> &Fields {
+        &self.fields
+    }
+
+    fn entries(&self) -> Option<u64> {
+        self.entries
+    }
+
+    fn tracks(&self) -> &[Track] {
+        &[]
+    }
+
+    fn mdats(&self) -> &[Span] {
+        &[]
+    }
+}
+
+fn add_info(alloc: Global, fields: &mut Fields, id: [u8; 4], raw: &[u8]) -> Result<(), Fail>
+    requires field { IsFieldName (Info (four id)) }
+    requires none { (field : BextField) → values fields.old (Bext field) ≡ [] }
+    ensures none { OnOk result ((field : BextField) → values fields.new (Bext field) ≡ []) }
+{
+    let value = Value {
+        lang: 0,
+        raw: Bytes::new(alloc, raw)?,
+    };
+    fields.add(FieldName::Info(FourCc(id)), value)?;
+    Ok(())
+}
+
+fn shown_of(alloc: Global, map: &Map) -> Result<Bytes, Fail>
+    requires none { (field : BextField) → values map.now.fields (Bext field) ≡ [] }
+{
+    let mut depot = SparseDepot::new(alloc, None)?;
+    match show_text(alloc, &mut depot, map) {
+        Ok(text) => Ok(text),
+        Err(_) => Err(NoMemory.into()),
+    }
+}
+
+#[test]
+fn fields_are_shown(rt: HostRuntime) -> Result<(), Fail> {
+    let mut fields = Fields::new(rt.alloc());
+    add_info(rt.alloc(), &mut fields, *b"INAM", b"A\0")?;
+    add_info(rt.alloc(), &mut fields, *b"ICRD", b"2024")?;
+    add_info(rt.alloc(), &mut fields, *b"INAM", b"B")?;
+    let map = Map {
+        kind: Kind::Wave,
+        fields,
+        entries: None,
+    };
+    let text = shown_of(rt.alloc(), &map)?;
+    let lines = "kind wave\nessence 4\nICRD=2024\nINAM=A\nINAM=B\n";
+    assert_eq!(rt; text.as_slice(), lines.as_bytes());
+    Ok(())
+}
+
+#[test]
+fn entries_and_escapes_are_shown(rt: HostRuntime) -> Result<(), Fail> {
+    let mut fields = Fields::new(rt.alloc());
+    add_info(rt.alloc(), &mut fields, *b"ICMT", b"a\n\\\x01")?;
+    let map = Map {
+        kind: Kind::Avi,
+        fields,
+        entries: Some(12),
+    };
+    let text = shown_of(rt.alloc(), &map)?;
+    let lines = "kind avi\nessence 4\nindex 12\nICMT=a\\n\\\\\\x01\n";
     assert_eq!(rt; text.as_slice(), lines.as_bytes());
     Ok(())
 }

@@ -1,10 +1,11 @@
 // Bytes put one after the other.
 ghost use Rattle.std.specs.Prelude.{◌≡◌, ◌++◌, OnOk};
-ghost use Rattle.me_report.specs.Lines.{count_line, hex_line};
+ghost use Rattle.field_model.specs.Texts as spec;
+ghost use Rattle.me_report.specs.Lines.{count_line, hex_line, or_nothing};
 
-use core_edit::ShownText;
+use core_edit::{ShownText, name_text};
 use itoa::Buffer;
-use part_tree::NoMemory;
+use part_tree::{FieldName, NoMemory};
 use std::alloc::Global;
 
 /// Appends bytes.
@@ -38,4 +39,14 @@ pub(crate) fn put_hex(
     put(out, word)?;
     put(out, digits.as_slice())?;
     put(out, b"\n")
+}
+
+/// Appends the text of a name, where it has one.
+pub(crate) fn put_name(alloc: Global, out: &mut Vec<u8>, name: &FieldName) -> Result<(), NoMemory>
+    ensures { OnOk result (out.new.items ≡ out.old.items ++ or_nothing (spec.name_text name.now)) }
+{
+    match name_text(alloc, name)? {
+        Some(text) => put(out, text.as_slice()),
+        None => Ok(()),
+    }
 }

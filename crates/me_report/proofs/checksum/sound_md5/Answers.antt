@@ -2,7 +2,6 @@ use Rattle.std.proofs.Common.{rules, ◌≡◌, ◌+◌, ◌++◌, ℕ, List, ta
 use Rattle.std.proofs.Math.Seq.{take-add}
 use Rattle.std.proofs.lemmas.List.{drop-drop}
 use Rattle.md5.specs.Md5.{Holds as HasMessage}
-use Rattle.me_disk.specs.Holds.{Holds}
 use Rattle.me_disk.proofs.Holds.{holds_on}
 use Rattle.me_disk.proofs.Runs.{ReadsOnly-trans}
 use Rattle.me_report.proofs.checksum.sound_md5.Goals as goal

@@ -1,0 +1,56 @@
+-- What is shown of a file (this project's own).
+use Rattle.std.specs.Prelude.{ℕ, List, [], ◌++◌, Option, Some, None, codes}
+use Rattle.std.specs.List.{flat_map}
+use Rattle.part_tree.specs.declared.field.FieldName.{FieldName}
+use Rattle.part_tree.specs.declared.field.Value.{Value}
+use Rattle.part_tree.specs.declared.fields.Entry.{Entry}
+use Rattle.part_tree.specs.declared.names.Kind.{Kind}
+use Rattle.part_tree.specs.declared.names.Kind.TheVariants.{Wave, Rf64, Avi, Mov}
+use Rattle.part_tree.specs.Fields.{names, values}
+use Rattle.part_tree.specs.Shows.{Told}
+use Rattle.field_model.specs.Fields.{FieldMap}
+use Rattle.field_model.specs.Shown.{shown}
+use Rattle.field_model.specs.Texts.{name_text}
+use Rattle.escapes.specs.Escapes.{escaped}
+use Rattle.me_report.specs.Lines.{count_line, or_nothing}
+
+-- the word of a kind
+abbrev pub kind_word : Kind → List ℕ
+kind_word Wave = codes "wave"
+kind_word Rf64 = codes "rf64"
+kind_word Avi = codes "avi"
+kind_word Mov = codes "mov"
+
+-- the line of a kind
+abbrev pub kind_line : Kind → List ℕ
+kind_line kind = codes "kind " ++ (kind_word kind ++ codes "\n")
+
+-- the line of the counted entries of indexes, where they are counted
+abbrev pub index_line : Option ℕ → List ℕ
+index_line None = []
+index_line (Some n) = count_line (codes "index ") n
+
+-- the line of a text that a field shows, with escapes
+abbrev pub text_line : FieldName → List ℕ → List ℕ
+text_line name text = or_nothing (name_text name) ++ (codes "=" ++ (escaped text ++ codes "\n"))
+
+-- none where no text is shown
+abbrev pub line_of : FieldName → Option (List ℕ) → List ℕ
+line_of name None = []
+line_of name (Some text) = text_line name text
+
+-- the line of a value
+abbrev pub value_line : FieldMap → FieldName → Value → List ℕ
+value_line f name v = line_of name (shown f name v)
+
+-- the lines of a field, in file order
+abbrev pub field_lines : FieldMap → FieldName → List ℕ
+field_lines f name = flat_map (value_line f name) (f name)
+
+-- the lines of all fields, in field order
+abbrev pub all_lines : List Entry → List ℕ
+all_lines es = flat_map (field_lines (values es)) (names es)
+
+-- the kind, the length of the sound or pictures, the counted entries of indexes, and the fields
+abbrev pub show_report : Told → List ℕ
+show_report t = kind_line t.kind ++ (count_line (codes "essence ") t.payload ++ (index_line t.entries ++ all_lines t.fields))
