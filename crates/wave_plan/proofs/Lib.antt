@@ -2,3 +2,4 @@ pub mod Frames
 pub mod Numbers
 pub mod Told
 pub mod Answered
+pub mod Rowed

@@ -182,6 +182,13 @@ tail_some : (x : List ℕ) → not (is_nil x) ≡ ltb 0 (length x)
 tail_some [] = refl
 tail_some (y ∷ x) = sym (lt-ltb 0 (length (y ∷ x)) (omega arith))
 
+pub inner_long : (b : List ℕ) → length (inner (wave_of b)) ≡ 4 + (length (spell_all (wave_of b).ds64) + (length (spell_all (wave_of b).children) + length (wave_of b).left))
+inner_long b = omega (arith, length-append (spell_all (wave_of b).ds64) (spell_all (wave_of b).children ++ (wave_of b).left), length-append (spell_all (wave_of b).children) (wave_of b).left)
+
+pub file_long : (b : List ℕ) → IsBytes b → Supported b → length b ≡ 8 + (length (inner (wave_of b)) + (length (wave_of b).pad + length (wave_of b).tail))
+file_long b bytes sup =
+    omega (arith, long_file b sup, ap length (behind_body b bytes sup), length-drop 8 b, length-append (inner (wave_of b)) ((wave_of b).pad ++ (wave_of b).tail), length-append (wave_of b).pad (wave_of b).tail)
+
 module _ (b : List ℕ) (e : List EditItem) (bytes : IsBytes b) (sup : Supported b) (f : Frame) (fr : IsFrame b f) (u : UnitCuts) (comes : ComesTo b e u) (st : StandsIn f u) where
   whole : SpansAscend 0 u.cuts.items f.len
   whole = whole_ascend f u st
@@ -214,14 +221,8 @@ module _ (b : List ℕ) (e : List EditItem) (bytes : IsBytes b) (sup : Supported
   long : 12 ≤ length b
   long = long_file b sup
 
-  inner_long : length (inner (wave_of b)) ≡ 4 + (length (spell_all (wave_of b).ds64) + (length (spell_all (wave_of b).children) + length (wave_of b).left))
-  inner_long = omega (arith, length-append (spell_all (wave_of b).ds64) (spell_all (wave_of b).children ++ (wave_of b).left), length-append (spell_all (wave_of b).children) (wave_of b).left)
-
-  file_long : length b ≡ 8 + (length (inner (wave_of b)) + (length (wave_of b).pad + length (wave_of b).tail))
-  file_long = omega (arith, long, ap length (behind_body b bytes sup), length-drop 8 b, length-append (inner (wave_of b)) ((wave_of b).pad ++ (wave_of b).tail), length-append (wave_of b).pad (wave_of b).tail)
-
   tail_long : tail_len f ≡ length (wave_of b).tail
-  tail_long = omega (arith, fr.len, fr.size, fr.pad, file_long)
+  tail_long = omega (arith, fr.len, fr.size, fr.pad, file_long b bytes sup)
 
   -- the file, cut where the chunks behind ds64 begin
   behind_front : drop (children_at (wave_of b)) b ≡ flat_map old_bytes (pieces_of (wave_of b) (raw_items (fields b) e)) ++ ((wave_of b).left ++ ((wave_of b).pad ++ (wave_of b).tail))
@@ -248,7 +249,7 @@ module _ (b : List ℕ) (e : List EditItem) (bytes : IsBytes b) (sup : Supported
       let after = v.left ++ (v.pad ++ v.tail) in
       let cs = cuts (fill_of v) at ps in
       let head = take at b in
-      let inside : at ≤ length b = omega (arith, file_long, inner_long) in
+      let inside : at ≤ length b = omega (arith, file_long b bytes sup, inner_long b) in
       let head_long : 0 + length head ≡ at = omega (arith, length-take at b, inside) in
       ap (splice b) cuts_are
       ∙ ap (λ (x : List ℕ). splice x cs) (sym (take-append-drop at b) ∙ ap (λ (x : List ℕ). head ++ x) behind_front)
@@ -263,12 +264,12 @@ module _ (b : List ℕ) (e : List EditItem) (bytes : IsBytes b) (sup : Supported
       let new = new_children v (raw_items (fields b) e) in
       let at = children_at v in
       let after = v.left ++ (v.pad ++ v.tail) in
-      let inside : at ≤ length b = omega (arith, file_long, inner_long) in
+      let inside : at ≤ length b = omega (arith, file_long b bytes sup, inner_long b) in
       let all : length (splice b (map (cut_in b) u.cuts.items)) ≡ spliced_len f.len u.cuts.items = spliced_length b f.len u.cuts.items (sym fr.len) whole in
       let told : moved ≡ at + (length (spell_all new) + length after) =
       omega (arith, is, all, ap length units_spliced, inside, length-take at b, length-append (take at b) (spell_all new ++ after), length-append (spell_all new) after)
       in
-      omega (arith, told, sum, fr.len, fr.size, file_long, inner_long, length-append v.left (v.pad ++ v.tail), length-append v.pad v.tail, length-append (spell_all v.ds64) (spell_all new ++ v.left), length-append (spell_all new) v.left)
+      omega (arith, told, sum, fr.len, fr.size, file_long b bytes sup, inner_long b, length-append v.left (v.pad ++ v.tail), length-append v.pad v.tail, length-append (spell_all v.ds64) (spell_all new ++ v.left), length-append (spell_all new) v.left)
 
   -- ---- the new file
 
@@ -292,7 +293,7 @@ module _ (b : List ℕ) (e : List EditItem) (bytes : IsBytes b) (sup : Supported
           let n = length (inner (wave_of b)) in
           let far = wide_low b bytes sup (children_at (wave_of b)) refl i in
           let size : n ≡ le64 (drop 20 b) = inner_len b bytes sup ∙ cond-true (is_wide b) (le64 (drop 20 b)) (le32 (drop 4 b)) i in
-          let here : to_le_bytes w64 n ≡ take 8 (drop 20 b) = le_bytes_8 (take 8 (drop 20 b)) n (omega (arith, far, file_long, inner_long, length-take 8 (drop 20 b), length-drop 20 b)) (IsBytes-take 8 (drop 20 b) (IsBytes-drop 20 b bytes)) size in
+          let here : to_le_bytes w64 n ≡ take 8 (drop 20 b) = le_bytes_8 (take 8 (drop 20 b)) n (omega (arith, far, file_long b bytes sup, inner_long b, length-take 8 (drop 20 b), length-drop 20 b)) (IsBytes-take 8 (drop 20 b) (IsBytes-drop 20 b bytes)) size in
           same_first b (to_le_bytes w64 n) 20 (map (cut_in b) u.cuts.items) (low_units true (fr.wide ∙ i) n) here
       go false i =
           let n = length (inner (wave_of b)) in
@@ -317,7 +318,7 @@ module _ (b : List ℕ) (e : List EditItem) (bytes : IsBytes b) (sup : Supported
   pad_ascends : (new : List ℕ) → Ascend 0 (map (cut_in b) u.cuts.items ++ record { at = 8 + length (inner (wave_of b)); len = length (wave_of b).pad; bytes = new } ∷ []) (length b)
   pad_ascends new =
       ascend_last 0 st.end (length b) (map (cut_in b) u.cuts.items) (record { at = 8 + length (inner (wave_of b)); len = length (wave_of b).pad; bytes = new })
-      (ascend_in 0 st.end u.cuts.items b (ascend_low 0 st.from st.end u.cuts.items (omega arith) st.ascend)) (omega (arith, st.round.high, fr.size)) (omega (arith, file_long))
+      (ascend_in 0 st.end u.cuts.items b (ascend_low 0 st.from st.end u.cuts.items (omega arith) st.ascend)) (omega (arith, st.round.high, fr.size)) (omega (arith, file_long b bytes sup))
 
   -- the pads of the two, where the size changes
   pads_told : (n : ℕ) (new : List ℕ) → new ≡ replicate (pad_after f n) 0

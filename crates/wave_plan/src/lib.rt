@@ -6,7 +6,9 @@ mod fault;
 mod frame;
 mod framed;
 mod plan;
+mod row;
 
 pub use fault::PlanFault;
 pub use frame::{Frame, read_frame};
 pub use plan::{Passed, plan_units};
+pub use row::plan_row;

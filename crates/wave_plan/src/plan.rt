@@ -71,6 +71,7 @@ pub fn plan_units(alloc: Global, frame: &Frame, units: UnitCuts) -> Result<Plan,
     requires { StandsIn frame.now units }
     ensures plans { (b : List ℕ) (e : List EditItem) → IsBytes b → Supported b → IsFrame b frame.now → ComesTo b e units → IsListed b e → PlansEdit b e result }
     ensures can { IfOk result (λ p. CanRun p) }
+    ensures reads_nothing { result ≡ Err PlanFault.Depot → ⊥ }
 {
     let UnitCuts { cuts, fits, parts } = units;
     let Some(moved) = new_len(&cuts, frame.len) else {
