@@ -41,35 +41,35 @@ wide_is : (bs : List ℕ) → wide_len bs ≡ wide_of (decoded bs)
 unfolding wide_len
 wide_is bs = refl
 
-second_high : (b c : ℕ) → second b c ≡ true → 92 < c
+second_high : (b c : ℕ) → second b c ≡ true → 127 < c
 second_high b c h = grind (arith, nat_tests)
 
-continues_high : (c : ℕ) → continues c ≡ true → 92 < c
+continues_high : (c : ℕ) → continues c ≡ true → 127 < c
 continues_high c h = grind (arith, nat_tests)
 
 none_below : (r : Decoded) (j : ℕ) (A : Type 0) → wide_of r ≡ 0 → j < wide_of r → A
 none_below r j A none lt = absurd (omega (arith, none, lt))
 
-two : (b c d e j : ℕ) → 92 < b → 92 < c → j < 2 → 92 < get_or (b ∷ c ∷ d ∷ e ∷ []) j 0
+two : (b c d e j : ℕ) → 127 < b → 127 < c → j < 2 → 127 < get_or (b ∷ c ∷ d ∷ e ∷ []) j 0
 two b c d e zero hb hc lt = hb
 two b c d e (suc zero) hb hc lt = hc
 two b c d e (suc (suc j)) hb hc lt = absurd (omega (arith, lt))
 
-three : (b c d e j : ℕ) → 92 < b → 92 < c → 92 < d → j < 3 → 92 < get_or (b ∷ c ∷ d ∷ e ∷ []) j 0
+three : (b c d e j : ℕ) → 127 < b → 127 < c → 127 < d → j < 3 → 127 < get_or (b ∷ c ∷ d ∷ e ∷ []) j 0
 three b c d e zero hb hc hd lt = hb
 three b c d e (suc zero) hb hc hd lt = hc
 three b c d e (suc (suc zero)) hb hc hd lt = hd
 three b c d e (suc (suc (suc j))) hb hc hd lt = absurd (omega (arith, lt))
 
-four : (b c d e j : ℕ) → 92 < b → 92 < c → 92 < d → 92 < e → j < 4 → 92 < get_or (b ∷ c ∷ d ∷ e ∷ []) j 0
+four : (b c d e j : ℕ) → 127 < b → 127 < c → 127 < d → 127 < e → j < 4 → 127 < get_or (b ∷ c ∷ d ∷ e ∷ []) j 0
 four b c d e zero hb hc hd he lt = hb
 four b c d e (suc zero) hb hc hd he lt = hc
 four b c d e (suc (suc zero)) hb hc hd he lt = hd
 four b c d e (suc (suc (suc zero))) hb hc hd he lt = he
 four b c d e (suc (suc (suc (suc j)))) hb hc hd he lt = absurd (omega (arith, lt))
 
--- the bytes of a wide character are above the backslash
-high_by : (r : Decoded) (n b c d e : ℕ) → Shape r n b c d e → (j : ℕ) → j < wide_of r → 92 < get_or (b ∷ c ∷ d ∷ e ∷ []) j 0
+-- the bytes of a wide character are above ASCII
+high_by : (r : Decoded) (n b c d e : ℕ) → Shape r n b c d e → (j : ℕ) → j < wide_of r → 127 < get_or (b ∷ c ∷ d ∷ e ∷ []) j 0
 high_by r n b c d e (inl h) j lt = none_below r j _ (ap wide_of h.1) lt
 high_by r n b c d e (inr (inl h)) j lt = none_below r j _ (ap wide_of h.2) lt
 high_by r n b c d e (inr (inr (inl h))) j lt = none_below r j _ (ap wide_of h.3) lt
@@ -86,23 +86,23 @@ high_by r n b c d e (inr (inr (inr (inr (inr (inr (inr (inr (inr (inr (inr (inl 
 high_by r n b c d e (inr (inr (inr (inr (inr (inr (inr (inr (inr (inr (inr (inr h)))))))))))) j lt =
     four b c d e j (omega (arith, h.1)) (second_high b c h.3) (continues_high d h.4) (continues_high e h.5) (omega (arith, lt, ap wide_of h.6))
 
-high : (bs : List ℕ) (j : ℕ) → j < wide_len bs → 92 < get_or bs j 0
+pub high : (bs : List ℕ) (j : ℕ) → j < wide_len bs → 127 < get_or bs j 0
 high bs j lt = go j (high_by (decoded bs) (length bs) (slice_index bs 0) (slice_index bs 1) (slice_index bs 2) (slice_index bs 3) (decoded_by-shape (length bs) (slice_index bs 0) (slice_index bs 1) (slice_index bs 2) (slice_index bs 3)) j (omega (arith, lt, wide_is bs)))
   where
-    go : (j : ℕ) → 92 < get_or (slice_index bs 0 ∷ slice_index bs 1 ∷ slice_index bs 2 ∷ slice_index bs 3 ∷ []) j 0 → 92 < get_or bs j 0
+    go : (j : ℕ) → 127 < get_or (slice_index bs 0 ∷ slice_index bs 1 ∷ slice_index bs 2 ∷ slice_index bs 3 ∷ []) j 0 → 127 < get_or bs j 0
     go zero h = h
     go (suc zero) h = h
     go (suc (suc zero)) h = h
     go (suc (suc (suc zero))) h = h
     go (suc (suc (suc (suc j)))) h = absurd (omega (arith, h))
 
--- the first n bytes are above the backslash
-abbrev AreHigh : ℕ → List ℕ → Type 0
+-- the first n bytes are above ASCII
+abbrev pub AreHigh : ℕ → List ℕ → Type 0
 AreHigh zero bs = Unit {0}
 AreHigh (suc n) [] = Unit {0}
-AreHigh (suc n) (b ∷ bs) = (92 < b) × AreHigh n bs
+AreHigh (suc n) (b ∷ bs) = (127 < b) × AreHigh n bs
 
-are_high : (n : ℕ) (bs : List ℕ) → ((j : ℕ) → j < n → 92 < get_or bs j 0) → AreHigh n bs
+pub are_high : (n : ℕ) (bs : List ℕ) → ((j : ℕ) → j < n → 127 < get_or bs j 0) → AreHigh n bs
 are_high zero bs h = tt
 are_high (suc n) [] h = tt
 are_high (suc n) (b ∷ bs) h = (h 0 (omega arith), are_high n bs (λ j lt. h (suc j) (omega (arith, lt))))
@@ -191,7 +191,7 @@ byte_read b text bs small rest = slash (b == 92) refl
 
 -- ---- the whole
 
-above : (b : ℕ) → 92 < b → (b == 92) ≡ false
+above : (b : ℕ) → 127 < b → (b == 92) ≡ false
 above b h = ne_eqb b 92 (λ e. omega (arith, e, h))
 
 -- the text of bytes of which the first n are of a wide character is read as these bytes

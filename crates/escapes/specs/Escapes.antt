@@ -1,5 +1,5 @@
 -- Bytes as one line of text, with escapes that begin with a backslash (this project's own).
-use Rattle.std.specs.Prelude.{ℕ, zero, suc, ◌+◌, ◌-◌, ◌*◌, ◌/◌, ◌%◌, List, [], ◌∷◌, ◌++◌, Bool, true, ◌&&◌, ◌||◌, ◌==◌, nat_lt, nat_le, Option, Some, None, option_map, is_some, if◌then◌else◌}
+use Rattle.std.specs.Prelude.{◌≡◌, ◌≤◌, ℕ, zero, suc, ◌+◌, ◌-◌, ◌*◌, ◌/◌, ◌%◌, List, [], ◌∷◌, ◌++◌, Bool, true, ◌&&◌, ◌||◌, ◌==◌, nat_lt, nat_le, Option, Some, None, option_map, is_some, if◌then◌else◌}
 use Rattle.std.specs.Char.{is_ascii_hexdigit, digit_value}
 use Rattle.std.specs.Fmt.{digit_glyph}
 use Rattle.bstr.specs.Utf8.{decoded}
@@ -91,3 +91,7 @@ joined bytes rest = option_map (λ bs. bytes ++ bs) rest
 abbrev pub left : Option ℕ → List ℕ → Option (List ℕ)
 left None text = None
 left (Some n) text = unescaped_from n text
+
+-- a byte that isn't below 20, nor 7F
+abbrev pub IsPrintable : ℕ → Type 0
+IsPrintable x = (32 ≤ x) × (x ≡ 127 → ⊥)
