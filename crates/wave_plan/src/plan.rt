@@ -3,7 +3,7 @@ ghost use Rattle.std.specs.Prelude.{◌≡◌, ◌≤◌, ◌<◌, ◌+◌, ◌-
 ghost use Rattle.me_bytes.specs.Bytes.{IsBytes};
 ghost use Rattle.part_tree.specs.declared.field.EditItem.{EditItem};
 ghost use Rattle.carrier_model.specs.Large.{first_above, limited};
-ghost use Rattle.file_swap.specs.Plans.{CanRun};
+ghost use Rattle.file_swap.specs.Plans.{Belongs, CanRun};
 ghost use Rattle.unit_plan.specs.Sized.{spliced_len};
 ghost use Rattle.wave_model.specs.Edited.{Supported};
 ghost use Rattle.wave_plan.specs.Frame.{IsFrame};
@@ -71,6 +71,7 @@ pub fn plan_units(alloc: Global, frame: &Frame, units: UnitCuts) -> Result<Plan,
     requires { StandsIn frame.now units }
     ensures plans { (b : List ℕ) (e : List EditItem) → IsBytes b → Supported b → IsFrame b frame.now → ComesTo b e units → IsListed b e → PlansEdit b e result }
     ensures can { IfOk result (λ p. CanRun p) }
+    ensures belongs { IfOk result (λ p. (b : List ℕ) → length b ≡ frame.now.len → Belongs p b) }
     ensures reads_nothing { result ≡ Err PlanFault.Depot → ⊥ }
 {
     let UnitCuts { cuts, fits, parts } = units;

@@ -5,7 +5,7 @@ ghost use Rattle.me_disk.specs.Causes.{Rose};
 ghost use Rattle.me_disk.specs.Steps.{ReadsOnly};
 ghost use Rattle.me_disk.specs.Holds.{Holds};
 ghost use Rattle.part_tree.specs.declared.field.EditItem.{EditItem};
-ghost use Rattle.file_swap.specs.Plans.{CanRun};
+ghost use Rattle.file_swap.specs.Plans.{Belongs, CanRun};
 ghost use Rattle.unit_plan.specs.Shapes.{shape_of};
 ghost use Rattle.unit_plan.specs.Places.{Follow, shape_in};
 ghost use Rattle.wave_model.specs.Wave.{wave_of};
@@ -41,6 +41,7 @@ pub fn plan_row<D: Depot>(
     ensures plans { (b : List ℕ) (e : List EditItem) → Holds (D.disk depot.old) b → IsBytes b → from ≡ children_at (wave_of b)
         → map (shape_in b) places.now ≡ map (shape_of part_count) (edited_cells b e) → IsListed b e → PlansEdit b e result }
     ensures can { IfOk result (λ p. CanRun p) }
+    ensures belongs { (b : List ℕ) → Holds (D.disk depot.old) b → IfOk result (λ p. Belongs p b) }
     ensures reads { ReadsOnly (D.disk depot.old) (D.disk depot.new) }
     ensures cause { result ≡ Err PlanFault.Depot → Rose (D.disk depot.old).faults (D.disk depot.new).faults }
 {
