@@ -149,24 +149,24 @@ token_again : (cs : List Chunk) → ArePlain cs → map (item_token info_items) 
 token_again [] h = refl
 token_again (c ∷ cs) h = rw (h.0.form_is, token_again cs h.1) refl
 
-marks_again : (c : Chunk) → tokens_of (list_in c) ≡ items_of info info_items c
+pub marks_again : (c : Chunk) → tokens_of (list_in c) ≡ items_of info info_items c
 marks_again c = let cs = (list_run c).chunks in ap (map (item_token info_items)) (read_remade cs) ∙ token_again cs (plain_chunks (drop 4 c.body))
 
 remade_twice : (cs : List Chunk) → map remade (map remade cs) ≡ map remade cs
 remade_twice [] = refl
 remade_twice (c ∷ cs) = ap (λ (xs : List Chunk). remade c ∷ xs) (remade_twice cs)
 
-carrier_again : (e : List (Item (List ℕ))) (c : Chunk) → changed_list e (list_in c) ≡ edit_carrier info info_items e c
+pub carrier_again : (e : List (Item (List ℕ))) (c : Chunk) → changed_list e (list_in c) ≡ edit_carrier info info_items e c
 carrier_again e c =
     let cs = (list_run c).chunks in
     of_items (put_all info_items e (map made_of (map item_of cs))) (put_all info_items e cs) (list_run c).left
     (ap (λ (xs : List Chunk). map remade (put_all info_items e xs)) (read_remade cs) ∙ all_remade e (map remade cs) ∙ ap (put_all info_items e) (remade_twice cs) ∙ sym (all_remade e cs))
 
-same_concern : (h : List ℕ → ℕ) (n : ℕ) (ts : List Token) (e : List (Item (List ℕ))) → concerned n ts (homed_of h e) ≡ concerns h n ts e
+pub same_concern : (h : List ℕ → ℕ) (n : ℕ) (ts : List Token) (e : List (Item (List ℕ))) → concerned n ts (homed_of h e) ≡ concerns h n ts e
 same_concern h n ts [] = refl
 same_concern h n ts (i ∷ e) = ap (λ (t : Bool). (has_mark i.name ts || (h i.name == n)) || t) (same_concern h n ts e)
 
-same_part : (h : List ℕ → ℕ) (n : ℕ) (e : List (Item (List ℕ))) → part_in n (homed_of h e) ≡ part_of h n e
+pub same_part : (h : List ℕ → ℕ) (n : ℕ) (e : List (Item (List ℕ))) → part_in n (homed_of h e) ≡ part_of h n e
 same_part h n [] = refl
 same_part h n (i ∷ e) = ap (λ (xs : List (Item (List ℕ))). record { name = i.name; value = if h i.name == n then i.value else None } ∷ xs) (same_part h n e)
 
@@ -222,7 +222,7 @@ has_any : (cs : List Chunk) → has_carrier info cs ≡ list_any is_info cs
 has_any [] = refl
 has_any (c ∷ cs) = ap (λ (t : Bool). is_info c || t) (has_any cs)
 
-some_lists : (h : List ℕ → ℕ) (e : List (Item (List ℕ))) (from : ℕ) (xs : List Cell) (ys : List CellAt) → Unmet is_info xs → ys ≡ told_row from xs → has_carrier info (flat_map live xs) ≡ nat_lt 0 (count_row is_list ys)
+pub some_lists : (h : List ℕ → ℕ) (e : List (Item (List ℕ))) (from : ℕ) (xs : List Cell) (ys : List CellAt) → Unmet is_info xs → ys ≡ told_row from xs → has_carrier info (flat_map live xs) ≡ nat_lt 0 (count_row is_list ys)
 some_lists h e from xs ys u is =
     has_any (flat_map live xs) ∙ some_told is_info (edit_nth info info_items h e) is_list (λ n x. list_edited (homed_of h e) n x) (lists_fits h e) from xs u ∙ ap (λ (zs : List CellAt). nat_lt 0 (count_row is_list zs)) (sym is)
 
@@ -253,7 +253,7 @@ part_whole : (e : List (Item (List ℕ))) → part_in 0 (homed_of (home []) e) �
 part_whole [] = refl
 part_whole (i ∷ e) = ap (λ (xs : List (Item (List ℕ))). i ∷ xs) (part_whole e)
 
-whole_part_is : (e : List (Item (List ℕ))) (ys : List CellAt) (is : List Homed) → is ≡ homed_of (home (all_marks ys)) e → count_row is_list ys ≡ 0 → part_in 0 is ≡ e
+pub whole_part_is : (e : List (Item (List ℕ))) (ys : List CellAt) (is : List Homed) → is ≡ homed_of (home (all_marks ys)) e → count_row is_list ys ≡ 0 → part_in 0 is ≡ e
 whole_part_is e ys is same none = ap (part_in 0) (same ∙ ap (λ (tss : List (List Token)). homed_of (home tss) e) (no_marks ys none)) ∙ part_whole e
 
 pub no_list : (e : List (Item (List ℕ))) (from : ℕ) (xs : List Cell) (ys zs : List CellAt) (is : List Homed) → is ≡ homed_of (home (all_marks ys)) e → Unmet is_info xs → ys ≡ told_row from xs → count_row is_list ys ≡ 0

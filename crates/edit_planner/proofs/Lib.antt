@@ -6,4 +6,5 @@ pub mod InfoLists
 pub mod Stands
 pub mod Loads
 pub mod Shaped
+pub mod Sizes
 pub mod Unmet

@@ -1,5 +1,5 @@
 -- Lists of INFO items in a row of cells: where each changed field is at home, and what becomes of each list.
-use Rattle.std.specs.Prelude.{◌≡◌, ℕ, ◌+◌, ◌-◌, ◌^◌, ◌<◌, ◌==◌, List, [], ◌∷◌, ◌++◌, length, map, Bool, true, false, ◌||◌, if◌then◌else◌, Option, Some, None, Result}
+use Rattle.std.specs.Prelude.{◌≡◌, ◌≤◌, ℕ, ◌+◌, ◌-◌, ◌^◌, ◌<◌, ◌==◌, List, [], ◌∷◌, ◌++◌, length, map, Bool, true, false, ◌||◌, if◌then◌else◌, Option, Some, None, Result}
 use Rattle.std.specs.declared.result.Result.TheVariants.{Ok, Err}
 use Rattle.std.specs.List.{AllByRecursion}
 use Rattle.part_tree.specs.Letters.{four}
@@ -10,6 +10,7 @@ use Rattle.container_model.specs.Items.{Item, has_mark, put_all}
 use Rattle.carrier_model.specs.Info.{info_items, list_of, one_of}
 use Rattle.carrier_model.specs.Large.{Size, limited, first_above}
 use Rattle.carrier_model.specs.Lists.{some_hold, first_holder, sets_some}
+use Rattle.wave_model.specs.Fields.{is_info}
 use Rattle.unit_plan.specs.Shapes.{parts_in}
 use Rattle.edit_planner.specs.Cells.{part_count}
 use Rattle.info_list.specs.Info.{chunks_of, tokens_of}
@@ -119,3 +120,13 @@ IsNewList e (Some content) = (sets_some e ≡ true) × (content ≡ Edited (spel
 
 abbrev pub new_sizes : List (Item (List ℕ)) → List Size
 new_sizes e = if sets_some e then limited (2 ^ 24) (length (fresh_list e).body) ∷ [] else []
+
+-- ---- the lists of the model
+
+-- the lengths of bodies, with the limit of a list's
+abbrev pub lengths : List (List ℕ) → List Size
+lengths bs = map (λ b. limited (2 ^ 24) (length b)) bs
+
+-- each list has at most 16 MiB
+abbrev pub SmallLists : List Chunk → Type 0
+SmallLists cs = AllByRecursion (λ c. is_info c ≡ true → length c.body ≤ 2 ^ 24) cs

@@ -5,19 +5,19 @@ ghost use Rattle.container_model.specs.Chunk.{Chunk, spell_all};
 ghost use Rattle.container_model.specs.Units.{Cell, live};
 ghost use Rattle.container_model.specs.Deep.{Token};
 ghost use Rattle.container_model.specs.Items.{has_mark, put_all};
-ghost use Rattle.carrier_model.specs.Cells.{acted_cells, never};
+ghost use Rattle.carrier_model.specs.Cells.{acted, acted_cells, never};
 ghost use Rattle.carrier_model.specs.Info.{info, info_items, list_of};
 ghost use Rattle.carrier_model.specs.Large.{limited};
 ghost use Rattle.carrier_model.specs.Lists.{home, lists_act, sets_some, some_hold};
 ghost use Rattle.bext_fields.specs.Change.{raw_items_of};
 ghost use Rattle.info_list.specs.Changes.{changes_of};
 ghost use Rattle.info_list.specs.Info.{chunks_of, tokens_of};
-ghost use Rattle.wave_model.specs.Fields.{is_info};
+ghost use Rattle.wave_model.specs.Fields.{bodies, is_info};
 ghost use Rattle.wave_model.specs.Carry.{info_item, info_part, raw};
 ghost use Rattle.unit_plan.specs.Shapes.{parts_in};
 ghost use Rattle.edit_planner.specs.Cells.{AreReadable, Follow, IsReadable, Unmet, part_count, told_row};
 ghost use Rattle.edit_planner.specs.Row.{changed_row, count_row, is_list as holds_list};
-ghost use Rattle.edit_planner.specs.Lists.{AreInfo, IsLarge, IsNewList, TellsLarge, new_sizes, all_marks, changed_list, concerned, home_from, homed_as, homed_of, list_edited, marks_in, part_in, size_in, sizes_in};
+ghost use Rattle.edit_planner.specs.Lists.{AreInfo, IsLarge, IsNewList, SmallLists, TellsLarge, new_sizes, all_marks, changed_list, concerned, home_from, homed_as, homed_of, list_edited, marks_in, lengths, part_in, size_in, sizes_in};
 ghost use Rattle.edit_planner.specs.declared.cells.CellAt.{CellAt};
 
 use crate::cells::{CellAt, Content, is_list, put_cell};
@@ -315,6 +315,8 @@ pub fn edit_lists(
     requires readable { AreReadable cells.old.items }
     ensures told { OnOk result ((xs : List Cell) → Unmet is_info xs → cells.old.items ≡ told_row from xs
         → cells.new.items ≡ told_row from (acted_cells (lists_act info info_items never (info_part (raw_items_of changes.now)) (flat_map live xs)) xs)) }
+    ensures large { (xs : List Cell) → Unmet is_info xs → SmallLists (flat_map live xs) → cells.old.items ≡ told_row from xs
+        → TellsLarge (lengths (bodies is_info (acted (lists_act info info_items never (info_part (raw_items_of changes.now)) (flat_map live xs)) (flat_map live xs)))) result }
     ensures follow { OnOk result ((end : ℕ) → Follow from cells.old.items end → Follow from cells.new.items end) }
 {
     let homed = match homed_changes(alloc, cells, changes) {
