@@ -7,4 +7,5 @@ pub mod Stands
 pub mod Loads
 pub mod Shaped
 pub mod Sizes
+pub mod ListSizes
 pub mod Unmet

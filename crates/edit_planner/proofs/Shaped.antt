@@ -15,6 +15,7 @@ use Rattle.container_model.specs.Windows.{window}
 use Rattle.container_model.specs.Written.{slice}
 use Rattle.container_model.specs.Walk.{along}
 use Rattle.carrier_model.specs.Info.{is_padding, list_run}
+use Rattle.carrier_model.specs.Large.{first_above}
 use Rattle.carrier_model.proofs.Cells.{Gaps}
 use Rattle.carrier_model.proofs.Info.{padding_no_list}
 use Rattle.info_list.specs.Info.{item_of}
@@ -40,7 +41,7 @@ use Rattle.edit_planner.specs.declared.cells.Content.TheVariants.{Kept, Body, Li
 use Rattle.field_model.specs.Update.{RawItem}
 use Rattle.wave_model.specs.Carry.{steps}
 use Rattle.edit_planner.specs.declared.wave.PlaceRow.{PlaceRow}
-use Rattle.edit_planner.specs.Places.{IsRowOf, begins_at, first_child, is_sizes}
+use Rattle.edit_planner.specs.Places.{IsRowOf, begins_at, list_sizes, first_child, is_sizes}
 use Rattle.edit_planner.specs.Cells as cells
 use Rattle.edit_planner.specs.Cells.{Unedited, content_of, list_in, part_count, told, told_row}
 use Rattle.edit_planner.specs.Stand.{StandsAt, StandFrom, cell_at, told_chunks, placed, count_of, what_of}
@@ -309,8 +310,8 @@ places_follow at (x ∷ xs) end h = (h.0, h.1, h.2, places_follow x.next xs end 
 
 pub row_told : (b : List ℕ) (e : List RawItem) (r : PlaceRow) (before cells : List CellAt) (parts ps : List Part) (n : ℕ) → IsBytes b → Supported b → parts ≡ all_parts (wave_of b) → n ≡ begins_at parts → ps ≡ drop (first_child parts) parts
     → r.from ≡ n → ((cs : List Chunk) → ps ≡ along part_at n cs → StandFrom b n cs → before ≡ told_chunks n cs)
-    → ((xs : List Cell) → Unedited xs → before ≡ told_row n xs → cells ≡ told_row n (carried (steps e) xs)) → r.places.items ≡ map placed cells → IsRowOf b e r
-row_told b e r before cells parts ps n bytes sup all begin slice from load edit places =
+    → ((xs : List Cell) → Unedited xs → before ≡ told_row n xs → cells ≡ told_row n (carried (steps e) xs)) → r.places.items ≡ map placed cells → first_above (list_sizes b e) ≡ None → IsRowOf b e r
+row_told b e r before cells parts ps n bytes sup all begin slice from load edit places lists =
     let w = wave_of b in
     let s = split_of b bytes sup in
     let st = starts_told b parts all in
@@ -319,7 +320,19 @@ row_told b e r before cells parts ps n bytes sup all begin slice from load edit 
     let loaded : before ≡ told_chunks n w.children = load w.children rest (subst (λ (m : ℕ). StandFrom b m w.children) (sym here) (children_stand b s)) in
     let row : before ≡ told_row n (cells_of w) = loaded ∙ ap (λ (m : ℕ). told_chunks m w.children) here ∙ sym (cells_told b s) ∙ ap (λ (m : ℕ). told_row m (cells_of w)) (sym here) in
     let done : cells ≡ told_row (children_at w) (carried (steps e) (cells_of w)) = edit (cells_of w) (cells_unedited w.ds64 w.children) row ∙ ap (λ (m : ℕ). told_row m (carried (steps e) (cells_of w))) here in
-    record { begins = from ∙ here; shapes = places_told b s (steps e) cells r.places.items places done }
+    record { begins = from ∙ here; shapes = places_told b s (steps e) cells r.places.items places done; lists = lists }
 
 pub tail_of : (k : ℕ) (ps : List Part) → take (length ps - k) (drop k ps) ≡ drop k ps
 tail_of k ps = Rattle.std.proofs.lemmas.List.take_all (length ps - k) (drop k ps) (omega (arith, Rattle.std.proofs.lemmas.List.length-drop k ps))
+
+-- the cells that are read
+pub before_told : (b : List ℕ) (before : List CellAt) (parts ps : List Part) (n : ℕ) → IsBytes b → Supported b → parts ≡ all_parts (wave_of b) → n ≡ begins_at parts → ps ≡ drop (first_child parts) parts
+    → ((cs : List Chunk) → ps ≡ along part_at n cs → StandFrom b n cs → before ≡ told_chunks n cs) → before ≡ told_row n (cells_of (wave_of b))
+before_told b before parts ps n bytes sup all begin slice load =
+    let w = wave_of b in
+    let s = split_of b bytes sup in
+    let st = starts_told b parts all in
+    let here : n ≡ children_at w = begin ∙ st.begin in
+    let rest : ps ≡ along part_at n w.children = slice ∙ st.rest ∙ ap (λ (m : ℕ). along part_at m w.children) (sym here) in
+    let loaded : before ≡ told_chunks n w.children = load w.children rest (subst (λ (m : ℕ). StandFrom b m w.children) (sym here) (children_stand b s)) in
+    loaded ∙ ap (λ (m : ℕ). told_chunks m w.children) here ∙ sym (cells_told b s) ∙ ap (λ (m : ℕ). told_row m (cells_of w)) (sym here)

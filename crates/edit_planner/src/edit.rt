@@ -1,6 +1,9 @@
 // All parts of an edit, one after the other.
 ghost use Rattle.std.specs.Prelude.{◌≡◌, ℕ, List, OnOk};
-ghost use Rattle.container_model.specs.Units.{Cell};
+ghost use Rattle.std.specs.List.{flat_map};
+ghost use Rattle.container_model.specs.Units.{Cell, live};
+ghost use Rattle.wave_model.specs.Fields.{bodies, is_info};
+ghost use Rattle.edit_planner.specs.Lists.{SmallLists, TellsLarge, lengths};
 ghost use Rattle.bext_fields.specs.Change.{raw_items_of};
 ghost use Rattle.wave_model.specs.Carry.{carried, steps};
 ghost use Rattle.edit_planner.specs.Cells.{AreFine, AreReadable, Follow, Unedited, told_row};
@@ -23,6 +26,7 @@ pub fn edit_cells(
     requires readable { AreReadable cells.old.items }
     requires fine { AreFine changes.now }
     ensures told { OnOk result ((xs : List Cell) → Unedited xs → cells.old.items ≡ told_row from xs → cells.new.items ≡ told_row from (carried (steps (raw_items_of changes.now)) xs)) }
+    ensures large { (xs : List Cell) → Unedited xs → SmallLists (flat_map live xs) → cells.old.items ≡ told_row from xs → TellsLarge (lengths (bodies is_info (flat_map live (carried (steps (raw_items_of changes.now)) xs)))) result }
     ensures follow { OnOk result ((end : ℕ) → Follow from cells.old.items end → Follow from cells.new.items end) }
 {
     match edit_bext(cells, alloc, from, changes) {

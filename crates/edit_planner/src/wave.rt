@@ -8,7 +8,7 @@ ghost use Rattle.bext_fields.specs.Change.{raw_items_of};
 ghost use Rattle.unit_plan.specs.Places.{Follow};
 ghost use Rattle.wave_file.specs.Map.{IsMapOf, IsSound};
 ghost use Rattle.edit_planner.specs.Cells.{AreFine};
-ghost use Rattle.edit_planner.specs.Places.{IsRowOf, begins_at, first_child, is_sizes as names_sizes};
+ghost use Rattle.edit_planner.specs.Places.{PlacesEdit, begins_at, first_child, is_sizes as names_sizes};
 
 use crate::edit::edit_cells;
 use crate::lists::ListsFault;
@@ -86,7 +86,7 @@ pub fn places_of<D: Depot>(
     requires mapped { (b : List ℕ) → Holds (D.disk depot.old) b → IsMapOf b map.now }
     requires sound { IsSound map.now }
     requires fine { AreFine changes.now }
-    ensures row { (b : List ℕ) → IsBytes b → Holds (D.disk depot.old) b → IfOk result (λ r. IsRowOf b (raw_items_of changes.now) r) }
+    ensures row { (b : List ℕ) → IsBytes b → Holds (D.disk depot.old) b → PlacesEdit b (raw_items_of changes.now) result }
     ensures follow { IfOk result (λ r. Follow r.from r.places.items r.end) }
     ensures inside { IfOk result (λ r. (12 ≤ r.from) × (r.from ≤ r.end) × (r.end ≤ map.now.form_end)) }
     ensures reads { ReadsOnly (D.disk depot.old) (D.disk depot.new) }
