@@ -9,3 +9,4 @@ pub mod Shaped
 pub mod Sizes
 pub mod ListSizes
 pub mod Unmet
+pub mod Ready

@@ -3,3 +3,4 @@ pub mod Row
 pub mod Lists
 pub mod Stand
 pub mod Places
+pub mod Plan

@@ -8,7 +8,10 @@ mod edit;
 mod lists;
 mod load;
 mod places;
+mod plans;
 mod wave;
 mod wholes;
 
+pub use plans::{FileMap, plan};
 pub use wave::{PlaceFault, PlaceRow, places_of};
+pub use wave_plan::PlanFault;

@@ -40,7 +40,7 @@ above_none (s ∷ a) b e = go (is_above s) refl (above_none a b)
     go true i again = let no : Some s ≡ None = sym (cond-true (is_above s) (Some s) (first_above a) i) ∙ e in absurd cc
     go false i again = cond-false (is_above s) (Some s) (first_above (a ++ b)) i ∙ again (sym (cond-false (is_above s) (Some s) (first_above a) i) ∙ e)
 
-above_some : (a b : List Size) (x : Size) → first_above a ≡ Some x → first_above (a ++ b) ≡ Some x
+pub above_some : (a b : List Size) (x : Size) → first_above a ≡ Some x → first_above (a ++ b) ≡ Some x
 above_some [] b x e = let no : None ≡ Some x = e in absurd cc
 above_some (s ∷ a) b x e = go (is_above s) refl (above_some a b x)
   where

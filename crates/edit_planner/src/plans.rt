@@ -1,0 +1,102 @@
+// The plan of an edit, from the map of a file.
+ghost use Rattle.std.specs.Prelude.{◌≡◌, ℕ, List, IfOk};
+ghost use Rattle.me_bytes.specs.Bytes.{IsBytes};
+ghost use Rattle.me_disk.specs.Causes.{Rose};
+ghost use Rattle.me_disk.specs.Steps.{ReadsOnly};
+ghost use Rattle.me_disk.specs.Holds.{Holds};
+ghost use Rattle.part_tree.specs.Fields.{values};
+ghost use Rattle.field_model.specs.Broken.{is_wave};
+ghost use Rattle.file_swap.specs.Plans.{Belongs, CanRun};
+ghost use Rattle.wave_file.specs.Map.{IsMapOf, IsSound};
+ghost use Rattle.wave_plan.specs.Planned.{PlansEdit};
+ghost use Rattle.edit_planner.specs.Plan.{IsReady, Maps, SoundMap, fields_in, kind_in};
+
+use crate::wave::{PlaceFault, places_of};
+use core_edit::{Edit, raw_changes};
+use me_disk::Depot;
+use part_tree::{Kind, Plan};
+use std::alloc::Global;
+use wave_file::WaveMap;
+use wave_plan::{PlanFault, plan_row};
+
+const MOST_BYTES: u64 = 16_777_216;
+
+/// The map of a file.
+#[derive(Debug, Drop)]
+pub enum FileMap {
+    Wave(WaveMap),
+}
+
+// Whether a kind is WAVE or RF64.
+fn is_wave(kind: Kind) -> bool
+    ensures { result ≡ is_wave kind }
+{
+    match kind {
+        Kind::Wave | Kind::Rf64 => true,
+        _ => false,
+    }
+}
+
+/// The plan of an edit of the file in the depot, whose map this is. Each item has an effect on the fields of the map, and they
+/// break no basic rule. In place exactly where the edit has room there, and else a new file. `TooLarge` is the first size of the
+/// new file that passes its limit; `Depot` only where the count of the depot's faults rose.
+pub fn plan<D: Depot>(
+    alloc: Global,
+    depot: &mut D,
+    file: &FileMap,
+    edit: &Edit,
+) -> Result<Plan, PlanFault>
+    requires mapped { (b : List ℕ) → Holds (D.disk depot.old) b → Maps b file.now }
+    requires sound { SoundMap file.now }
+    requires ready { IsReady (kind_in file.now) (fields_in file.now) edit.now }
+    ensures plans { (b : List ℕ) → Holds (D.disk depot.old) b → IsBytes b → PlansEdit b edit.now result }
+    ensures can { IfOk result (λ p. CanRun p) }
+    ensures belongs { (b : List ℕ) → Holds (D.disk depot.old) b → IfOk result (λ p. Belongs p b) }
+    ensures reads { ReadsOnly (D.disk depot.old) (D.disk depot.new) }
+    ensures cause { result ≡ Err PlanFault.Depot → Rose (D.disk depot.old).faults (D.disk depot.new).faults }
+{
+    match file {
+        FileMap::Wave(wave) => plan_wave(alloc, depot, wave, edit),
+    }
+}
+
+// The same of a WAVE or RF64 file. A map of another kind is of no such file.
+fn plan_wave<D: Depot>(
+    alloc: Global,
+    depot: &mut D,
+    wave: &WaveMap,
+    edit: &Edit,
+) -> Result<Plan, PlanFault>
+    requires mapped { (b : List ℕ) → Holds (D.disk depot.old) b → IsMapOf b wave.now }
+    requires sound { IsSound wave.now }
+    requires ready { IsReady wave.now.kind (values wave.now.fields) edit.now }
+    ensures plans { (b : List ℕ) → Holds (D.disk depot.old) b → IsBytes b → PlansEdit b edit.now result }
+    ensures can { IfOk result (λ p. CanRun p) }
+    ensures belongs { (b : List ℕ) → Holds (D.disk depot.old) b → IfOk result (λ p. Belongs p b) }
+    ensures reads { ReadsOnly (D.disk depot.old) (D.disk depot.new) }
+    ensures cause { result ≡ Err PlanFault.Depot → Rose (D.disk depot.old).faults (D.disk depot.new).faults }
+{
+    if !is_wave(wave.kind) {
+        return Err(PlanFault::Memory);
+    }
+    let changes = match raw_changes(alloc, edit) {
+        Err(_) => return Err(PlanFault::Memory),
+        Ok(changes) => changes,
+    };
+    let row = match places_of(alloc, depot, wave, &changes) {
+        Err(PlaceFault::TooLarge { size }) => {
+            return Err(PlanFault::TooLarge {
+                size,
+                limit: MOST_BYTES,
+            });
+        }
+        Err(PlaceFault::Depot) => return Err(PlanFault::Depot),
+        Err(PlaceFault::Memory) => return Err(PlanFault::Memory),
+        Ok(row) => row,
+    };
+    let plan = match plan_row(alloc, depot, wave, &row.places, row.from, row.end) {
+        Err(fault) => return Err(fault),
+        Ok(plan) => plan,
+    };
+    Ok(plan)
+}
