@@ -7,6 +7,8 @@ mod frame;
 mod framed;
 mod plan;
 mod row;
+#[cfg(test)]
+mod tests;
 
 pub use fault::PlanFault;
 pub use frame::{Frame, read_frame};
