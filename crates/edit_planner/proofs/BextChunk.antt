@@ -181,3 +181,17 @@ body_now e x body read content is r h =
     ap (λ (y : Content). record { at = x.at; next = x.next; lacks_pad = false; content = y }) (h (made (codes "bext") (edited_bext e read) ∷ []) refl)
     ∙ ap (λ (b : List ℕ). edited_at x (made (codes "bext") (edited_bext e b) ∷ [])) (r ∙ ap body_of (sym is))
     ∙ ap (λ (t : Bool). if t then body_edited e x else x) (sym (ap is_body is))
+
+-- items that their fields can have are changes that are fine
+pub fine_from : (cs : List RawChange) → ItemsFine (raw_items_of cs) → AreFine cs
+fine_from [] h = tt
+fine_from (c ∷ cs) h = (one c.name c.value h.0, fine_from cs h.1)
+  where
+    one : (name : FieldName) (o : Option Value) → ItemFine name o → IsFine name o
+    one (Bext field) None h = h
+    one (Bext field) (Some v) h = h
+    one (Info id) None h = h
+    one (Info id) (Some v) h = h
+    one (Whole id) None h = h
+    one (Whole id) (Some v) h = h
+    one (User id) o h = h

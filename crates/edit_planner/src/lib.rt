@@ -9,6 +9,8 @@ mod lists;
 mod load;
 mod places;
 mod plans;
+#[cfg(test)]
+mod tests;
 mod wave;
 mod wholes;
 
