@@ -1,21 +1,20 @@
 -- An edit of which every item has an effect, and that breaks no basic rule.
-use Rattle.std.proofs.Common.{◌≡◌, ◌∙◌, ℕ, ◌+◌, ◌-◌, ◌^◌, ◌<◌, Bool, true, false, List, [], ◌∷◌, ◌++◌, length, map, refl, sym, ap, subst, arith}
+use Rattle.std.proofs.Common.{◌≡◌, ◌∙◌, ℕ, ◌<◌, true, false, List, [], ◌∷◌, length, map, refl, sym, ap, subst, arith}
 use Rattle.std.proofs.Math.Path.{fun_ext}
 use Rattle.std.specs.Prelude.{IsTrue, Some, None}
 use Rattle.me_disk.specs.Disk.{Disk, bytes_of}
 use Rattle.me_disk.specs.Holds.{Holds}
 use Rattle.me_disk.specs.Steps.{ReadsOnly}
 use Rattle.part_tree.specs.declared.field.EditItem.{EditItem}
-use Rattle.part_tree.specs.declared.field.RuleSet.TheVariants.{Base}
 use Rattle.part_tree.specs.declared.names.Kind.{Kind}
 use Rattle.part_tree.specs.declared.names.Kind.TheVariants.{Wave, Rf64, Avi, Mov}
 use Rattle.part_tree.specs.Fields.{values}
-use Rattle.field_model.specs.Broken.{broken, is_movie, is_wave}
+use Rattle.field_model.specs.Broken.{is_movie, is_wave}
 use Rattle.field_model.specs.Fields.{FieldMap}
 use Rattle.field_model.specs.Update.{RawItem, effective, raw_items}
 use Rattle.bext_fields.specs.declared.change.RawChange.{RawChange}
 use Rattle.bext_fields.specs.Change.{raw_items_of}
-use Rattle.carrier_model.specs.Large.{Size, first_above, limited}
+use Rattle.carrier_model.specs.Large.{Size, first_above}
 use Rattle.wave_model.specs.Wave.{cells_of, wave_of}
 use Rattle.wave_model.specs.Carry.{carried, steps}
 use Rattle.unit_plan.specs.declared.place.Place.{Place}

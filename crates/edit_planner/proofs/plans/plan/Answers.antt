@@ -1,4 +1,4 @@
-use Rattle.std.proofs.Common.{rules, arith}
+use Rattle.std.proofs.Common.{rules}
 use Rattle.edit_planner.specs.Plan.{Maps}
 use Rattle.edit_planner.proofs.plans.plan.Goals as goal
 

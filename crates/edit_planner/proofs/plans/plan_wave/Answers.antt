@@ -1,14 +1,9 @@
-use Rattle.std.proofs.Common.{rules, arith, ap, sym, ◌∙◌, ◌≡◌, ◌≤◌, ◌^◌, List, ℕ, map, true}
-use Rattle.std.specs.Prelude.{None, Some}
+use Rattle.std.proofs.Common.{ap, sym, ◌∙◌, ◌≡◌, ◌^◌, ℕ}
+use Rattle.std.specs.Prelude.{Some}
 use Rattle.me_disk.proofs.Holds.{holds_on}
 use Rattle.part_tree.specs.Fields.{values}
-use Rattle.field_model.specs.Update.{RawItem, raw_items}
 use Rattle.carrier_model.specs.Large.{first_above, limited}
-use Rattle.unit_plan.specs.Shapes.{shape_of}
-use Rattle.wave_model.specs.Wave.{wave_of, cells_of}
-use Rattle.wave_model.specs.Carry.{carried, steps}
 use Rattle.bext_fields.specs.Change.{raw_items_of}
-use Rattle.edit_planner.specs.Cells.{part_count}
 use Rattle.edit_planner.specs.Places.{list_sizes}
 use Rattle.edit_planner.proofs.Ready.{are_fine, holds_back, is_listed, items_are, list_large, shapes_are}
 use Rattle.edit_planner.proofs.plans.plan_wave.Goals as goal
