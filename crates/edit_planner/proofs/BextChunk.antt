@@ -1,8 +1,7 @@
 -- The chunk `bext` in a row of cells.
-use Rattle.std.proofs.Common.{◌≡◌, ◌∙◌, ◌<◌, ◌≤◌, ℕ, zero, suc, ◌+◌, ◌^◌, drop, set, get_or, Bool, true, false, List, [], ◌∷◌, ◌++◌, length, map, refl, sym, ap, arith, subst}
+use Rattle.std.proofs.Common.{◌≡◌, ◌∙◌, ◌<◌, ◌≤◌, ℕ, ◌+◌, ◌^◌, drop, set, get_or, Bool, true, false, List, [], ◌∷◌, length, refl, sym, ap, arith, subst}
 use Rattle.std.specs.Prelude.{Option, Some, None, if◌then◌else◌, nat_lt, codes, ◌||◌}
-use Rattle.std.specs.Str.{bytes_eq}
-use Rattle.std.specs.List.{flat_map, list_any, AllByRecursion}
+use Rattle.std.specs.List.{flat_map}
 use Rattle.std.proofs.lemmas.List.{append-nil, at_drop_more, at_drop_all, drop-set-lt}
 use Rattle.std.proofs.lemmas.Bool.{lt-ltb}
 use Rattle.part_tree.specs.declared.field.FieldName.{FieldName}
@@ -25,7 +24,7 @@ use Rattle.wave_file.proofs.Roles.{bext_holds}
 use Rattle.unit_plan.specs.Shapes.{parts_in}
 use Rattle.edit_planner.specs.declared.cells.CellAt.{CellAt}
 use Rattle.edit_planner.specs.declared.cells.Content.{Content}
-use Rattle.edit_planner.specs.declared.cells.Content.TheVariants.{Kept, Body, Listed, Gap, Edited}
+use Rattle.edit_planner.specs.declared.cells.Content.TheVariants.{Body, Edited}
 use Rattle.edit_planner.specs.Cells.{AreFine, IsFine, AreReadable, IsReadable, Follow, Unedited, Unmet, content_of, part_count, told, told_row}
 use Rattle.edit_planner.specs.Row.{is_body, body_edited, body_of, changed_row, count_row, edited_at, new_at, put_new, stops}
 use Rattle.edit_planner.proofs.Row.{change_follows, put_follows}

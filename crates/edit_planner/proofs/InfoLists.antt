@@ -1,10 +1,9 @@
 -- The lists of INFO items in a row of cells.
-use Rattle.std.proofs.Common.{◌≡◌, ◌∙◌, ◌<◌, ◌≤◌, ℕ, zero, suc, ◌+◌, ◌-◌, ◌^◌, drop, set, get_or, min, Bool, true, false, List, [], ◌∷◌, ◌++◌, length, map, refl, sym, ap, arith, subst, append_assoc}
-use Rattle.std.specs.Prelude.{Option, Some, None, if◌then◌else◌, nat_lt, codes, ◌||◌, ◌==◌, Result, option_map}
-use Rattle.std.specs.declared.result.Result.TheVariants.{Ok, Err}
-use Rattle.std.specs.Str.{bytes_eq}
+use Rattle.std.proofs.Common.{◌≡◌, ◌∙◌, ◌<◌, ◌≤◌, ℕ, suc, ◌+◌, ◌-◌, ◌^◌, drop, min, Bool, true, false, List, [], ◌∷◌, ◌++◌, length, map, refl, sym, ap, arith, subst}
+use Rattle.std.specs.Prelude.{Option, Some, None, if◌then◌else◌, nat_lt, codes, ◌||◌, ◌==◌, option_map}
+use Rattle.std.specs.declared.result.Result.TheVariants.{Err}
 use Rattle.std.specs.List.{flat_map, list_any, AllByRecursion}
-use Rattle.std.proofs.lemmas.List.{append-nil, length-map, at_drop_more, at_drop_all}
+use Rattle.std.proofs.lemmas.List.{append-nil, length-map}
 use Rattle.std.proofs.lemmas.Bool.{lt-ltb, le-ltb}
 use Rattle.part_tree.specs.Letters.{four}
 use Rattle.part_tree.specs.declared.names.FourCc.{FourCc}
@@ -14,24 +13,22 @@ use Rattle.part_tree.specs.declared.field.Value.{Value}
 use Rattle.field_model.specs.Update.{RawItem}
 use Rattle.wave_model.specs.Carry.{info_item, info_part, raw}
 use Rattle.part_tree.specs.Names.{info_ids}
-use Rattle.container_model.specs.Chunk.{Chunk, ends, spell, spell_all, Run}
+use Rattle.container_model.specs.Chunk.{Chunk, spell, spell_all, Run}
 use Rattle.container_model.specs.Units.{Cell, kept, live}
 use Rattle.container_model.specs.Deep.{Token}
 use Rattle.container_model.specs.Items.{Item, item_token, has_mark, put_all, edit_carrier}
 use Rattle.container_model.proofs.Items.{MakesGood, all_after}
 use Rattle.container_model.proofs.Plain.{IsPlain, ArePlain, plain_chunks}
-use Rattle.carrier_model.specs.Cells.{Change, leave, become, changed_cell, settle_cells, insert_cell, behind, never, acted_cells}
+use Rattle.carrier_model.specs.Cells.{leave, become, changed_cell, never, acted_cells}
 use Rattle.carrier_model.specs.Info.{info, info_items, list_of, list_run, made, remade, one_of, SetsInfo}
-use Rattle.carrier_model.specs.Large.{Size, limited, first_above}
-use Rattle.carrier_model.specs.Lists.{home, some_hold, first_holder, items_of, all_items, concerns, part_of, edit_nth, has_carrier, sets_some, new_carrier, lists_act, lists_act_by}
+use Rattle.carrier_model.specs.Large.{limited, first_above}
+use Rattle.carrier_model.specs.Lists.{home, items_of, all_items, concerns, part_of, edit_nth, has_carrier, sets_some, new_carrier, lists_act, lists_act_by}
 use Rattle.carrier_model.proofs.Info.{list_again, small_items, made_plain, info_len}
-use Rattle.info_list.specs.Changes.{changes_of}
 use Rattle.info_list.specs.Info.{chunk_of, chunks_of, item_of, list_chunk, made_of, tokens_of}
 use Rattle.info_list.specs.declared.InfoItem.{InfoItem}
 use Rattle.info_list.specs.declared.InfoList.{InfoList}
 use Rattle.info_list.proofs.Changed.{made_remade, read_remade, all_remade}
 use Rattle.wave_model.specs.Fields.{is_info}
-use Rattle.wave_model.specs.Edited.{parts_of}
 use Rattle.unit_plan.specs.Shapes.{parts_in}
 use Rattle.edit_planner.specs.declared.cells.CellAt.{CellAt}
 use Rattle.edit_planner.specs.declared.cells.Content.{Content}
@@ -39,9 +36,9 @@ use Rattle.edit_planner.specs.declared.cells.Content.TheVariants.{Kept, Body, Li
 use Rattle.edit_planner.specs.declared.lists.Homed.{Homed}
 use Rattle.edit_planner.specs.declared.lists.ListsFault.{ListsFault}
 use Rattle.edit_planner.specs.declared.lists.ListsFault.TheVariants.{TooLarge, Memory}
-use Rattle.edit_planner.specs.Cells.{AreReadable, IsReadable, Follow, Unmet, content_of, list_in, part_count, told, told_row}
+use Rattle.edit_planner.specs.Cells.{IsReadable, Follow, Unmet, content_of, list_in, part_count, told, told_row}
 use Rattle.edit_planner.specs.Row.{is_list, changed_row, count_row, edited_at, new_at, put_new}
-use Rattle.edit_planner.specs.Lists.{AreInfo, IsLarge, IsNewList, TellsLarge, all_marks, fresh_list, changed_list, concerned, homed_of, list_edited, list_edited_by, marks_in, part_in, size_in, sizes_in}
+use Rattle.edit_planner.specs.Lists.{AreInfo, IsLarge, IsNewList, TellsLarge, all_marks, fresh_list, changed_list, concerned, homed_of, list_edited, list_edited_by, marks_in, part_in}
 use Rattle.edit_planner.proofs.Row.{change_follows}
 use Rattle.edit_planner.proofs.WholeChunks.{put_last}
 use Rattle.edit_planner.proofs.Told.{Fits, settled, some_told, none_changed, list_told}

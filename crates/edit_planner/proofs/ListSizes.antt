@@ -1,9 +1,9 @@
 -- The lengths of lists after all parts of an edit.
 use Rattle.std.proofs.Common.{◌≡◌, ◌∙◌, ◌≤◌, ℕ, ◌^◌, Bool, true, false, List, [], ◌∷◌, length, map, refl, sym, ap, subst}
-use Rattle.std.specs.Prelude.{◌&&◌, ◌||◌, if◌then◌else◌, codes, None}
+use Rattle.std.specs.Prelude.{◌&&◌, ◌||◌, if◌then◌else◌, codes}
 use Rattle.std.specs.Str.{bytes_eq}
 use Rattle.std.specs.List.{flat_map, AllByRecursion}
-use Rattle.std.specs.declared.result.Result.TheVariants.{Ok, Err}
+use Rattle.std.specs.declared.result.Result.TheVariants.{Err}
 use Rattle.part_tree.specs.Names.{whole_ids}
 use Rattle.field_model.specs.Bext.{new_body}
 use Rattle.field_model.specs.Body.{edited_bext}
@@ -12,14 +12,13 @@ use Rattle.container_model.specs.Chunk.{Chunk}
 use Rattle.container_model.specs.Units.{Cell, live}
 use Rattle.carrier_model.specs.Cells.{never, acted, acted_cells}
 use Rattle.carrier_model.specs.Info.{own_size, is_padding, info, info_items, made}
-use Rattle.carrier_model.specs.Large.{first_above}
 use Rattle.carrier_model.specs.Lists.{lists_act}
-use Rattle.carrier_model.proofs.Cells.{Gaps, Makes, Unseen, all_acted, live_acted, live_from}
+use Rattle.carrier_model.proofs.Cells.{Makes, Unseen, all_acted, live_acted, live_from}
 use Rattle.wave_model.specs.Wave.{wave_of, cells_of}
 use Rattle.wave_model.specs.Fields.{bodies, body_in, is_bext, is_info, is_marked}
-use Rattle.wave_model.specs.Carry.{Step, bext_act, bext_by, edits_bext, info_part, some_chunk, whole_act, carried, steps, stepped}
+use Rattle.wave_model.specs.Carry.{Step, bext_act, bext_by, edits_bext, info_part, some_chunk, whole_act, carried, steps}
 use Rattle.wave_model.specs.Edited.{ChunkFine, Supported}
-use Rattle.wave_model.specs.New.{ends_file, new_children}
+use Rattle.wave_model.specs.New.{ends_file}
 use Rattle.wave_model.proofs.Acts.{Blind, whole_unseen}
 use Rattle.wave_model.proofs.Cells.{all_cells, gaps_cells, view_laid}
 use Rattle.wave_model.proofs.New.{ignores_info}

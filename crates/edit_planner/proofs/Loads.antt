@@ -1,7 +1,6 @@
 -- The cells of parts that are read one after the other.
 use Rattle.std.proofs.Common.{◌≡◌, ◌∙◌, ◌≤◌, ◌<◌, ℕ, zero, suc, ◌+◌, List, [], ◌∷◌, ◌++◌, length, drop, get_or, refl, sym, ap, arith, subst, append_assoc}
 use Rattle.std.specs.Prelude.{IsTrue}
-use Rattle.std.specs.List.{AllByRecursion}
 use Rattle.me_disk.specs.Disk.{Disk, bytes_of}
 use Rattle.me_disk.specs.Holds.{Holds, Inside}
 use Rattle.me_disk.specs.Steps.{ReadsOnly}

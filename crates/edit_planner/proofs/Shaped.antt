@@ -1,16 +1,15 @@
 -- The places of an edit, and the cells of the model.
-use Rattle.std.proofs.Common.{◌≡◌, ◌∙◌, ◌≤◌, ◌<◌, ℕ, zero, suc, ◌+◌, ◌-◌, ◌%◌, Bool, true, false, List, [], ◌∷◌, ◌++◌, length, map, take, drop, refl, sym, ap, arith, subst, append_assoc, inl, inr}
-use Rattle.std.specs.Prelude.{◌⊎◌, ◌&&◌, not, ◌==◌, if◌then◌else◌, codes, Option, Some, None}
+use Rattle.std.proofs.Common.{◌≡◌, ◌∙◌, ◌≤◌, ◌<◌, ℕ, suc, ◌+◌, ◌-◌, ◌%◌, Bool, true, false, List, [], ◌∷◌, ◌++◌, length, map, take, drop, refl, sym, ap, arith, subst, append_assoc, inl, inr}
+use Rattle.std.specs.Prelude.{◌⊎◌, ◌&&◌, not, ◌==◌, if◌then◌else◌, codes, None}
 use Rattle.std.specs.List.{flat_map, AllByRecursion}
 use Rattle.std.proofs.lemmas.List.{append-nil, length-append, length-map, take_at, drop_at}
-use Rattle.std.proofs.lemmas.List.Concat.{flat_map-append}
 use Rattle.me_bytes.specs.Bytes.{IsBytes}
 use Rattle.part_tree.specs.Letters.{four}
 use Rattle.part_tree.specs.declared.part.Part.{Part}
 use Rattle.part_tree.specs.declared.part.Role.{Role}
 use Rattle.part_tree.specs.declared.part.Role.TheVariants.{Opaque, Padding, Bext, Info, Whole, Sizes, Tables, UserData, Essence, Rest}
-use Rattle.container_model.specs.Chunk.{Chunk, header_bytes, riff, wide, pad_len, spell, spell_all}
-use Rattle.container_model.specs.Units.{Cell, kept, gap, edited, was, live, lacks_pad}
+use Rattle.container_model.specs.Chunk.{Chunk, header_bytes, pad_len, spell, spell_all}
+use Rattle.container_model.specs.Units.{Cell, kept, gap, edited, was, lacks_pad}
 use Rattle.container_model.specs.Windows.{window}
 use Rattle.container_model.specs.Written.{slice}
 use Rattle.container_model.specs.Walk.{along}
@@ -28,7 +27,7 @@ use Rattle.wave_model.proofs.Again.{field_of, spelled, field_len}
 use Rattle.wave_model.proofs.Cells.{was_cells, gaps_cells}
 use Rattle.wave_model.proofs.Edited.{kind_len}
 use Rattle.wave_model.proofs.Form.{spelled_is, old_form, old_fine}
-use Rattle.wave_model.proofs.Map.{Eight, head_len, body_there}
+use Rattle.wave_model.proofs.Map.{head_len, body_there}
 use Rattle.wave_model.proofs.Read.{most, OfRiff, IsRead}
 use Rattle.wave_model.proofs.Steps.{was_carried, gaps_carried}
 use Rattle.wave_file.specs.Map.{Ascend, all_parts, at_front, part_as, part_at, role_of, sizes_at}
@@ -36,15 +35,14 @@ use Rattle.unit_plan.specs.Shapes.{Shape, stays, pads, changes, parts_in, shape_
 use Rattle.unit_plan.specs.Places.{Follow, shape_in}
 use Rattle.unit_plan.specs.declared.place.Place.{Place}
 use Rattle.edit_planner.specs.declared.cells.CellAt.{CellAt}
-use Rattle.edit_planner.specs.declared.cells.Content.{Content}
-use Rattle.edit_planner.specs.declared.cells.Content.TheVariants.{Kept, Body, Listed, Gap, Edited}
+use Rattle.edit_planner.specs.declared.cells.Content.TheVariants.{Kept, Body, Listed}
 use Rattle.field_model.specs.Update.{RawItem}
 use Rattle.wave_model.specs.Carry.{steps}
 use Rattle.edit_planner.specs.declared.wave.PlaceRow.{PlaceRow}
 use Rattle.edit_planner.specs.Places.{IsRowOf, begins_at, list_sizes, first_child, is_sizes}
 use Rattle.edit_planner.specs.Cells as cells
 use Rattle.edit_planner.specs.Cells.{Unedited, content_of, list_in, part_count, told, told_row}
-use Rattle.edit_planner.specs.Stand.{StandsAt, StandFrom, cell_at, told_chunks, placed, count_of, what_of}
+use Rattle.edit_planner.specs.Stand.{StandFrom, cell_at, told_chunks, placed, count_of, what_of}
 
 -- ---- chunks stand where they are told
 

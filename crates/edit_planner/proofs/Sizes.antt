@@ -1,22 +1,20 @@
 -- How long the lists of INFO items become.
-use Rattle.std.proofs.Common.{◌≡◌, ◌∙◌, ◌<◌, ◌≤◌, ℕ, zero, suc, ◌+◌, ◌^◌, Bool, true, false, List, [], ◌∷◌, ◌++◌, length, map, refl, sym, ap, arith, subst, inl, inr}
-use Rattle.std.specs.Prelude.{Option, Some, None, if◌then◌else◌, nat_lt, codes, ◌||◌, ◌⊎◌, Result}
-use Rattle.std.specs.declared.result.Result.TheVariants.{Ok, Err}
+use Rattle.std.proofs.Common.{◌≡◌, ◌∙◌, ◌<◌, ◌≤◌, ℕ, suc, ◌+◌, ◌^◌, Bool, true, false, List, [], ◌∷◌, ◌++◌, length, refl, sym, ap, arith, inl, inr}
+use Rattle.std.specs.Prelude.{Option, Some, None, if◌then◌else◌, nat_lt, ◌||◌, ◌⊎◌}
+use Rattle.std.specs.declared.result.Result.TheVariants.{Err}
 use Rattle.std.specs.List.{flat_map, list_any, AllByRecursion}
-use Rattle.std.proofs.lemmas.List.Concat.{flat_map-append}
 use Rattle.std.proofs.lemmas.Bool.{le-ltb, lt-ltb}
-use Rattle.container_model.specs.Chunk.{Chunk, spell, spell_all}
+use Rattle.container_model.specs.Chunk.{Chunk, spell_all}
 use Rattle.container_model.specs.Units.{Cell, kept, gap, edited, live}
 use Rattle.container_model.specs.Deep.{Token}
-use Rattle.container_model.specs.Items.{Item, put_all, edit_carrier}
-use Rattle.carrier_model.specs.Cells.{Change, leave, become, changed, change_at, counted, settle, behind, never, acted}
-use Rattle.carrier_model.specs.Info.{info, info_items, list_of}
+use Rattle.container_model.specs.Items.{Item, edit_carrier}
+use Rattle.carrier_model.specs.Cells.{Change, leave, become, changed, settle, behind, never, acted}
+use Rattle.carrier_model.specs.Info.{info, info_items}
 use Rattle.carrier_model.specs.Large.{Size, limited, first_above}
 use Rattle.carrier_model.specs.Lists.{home, items_of, all_items, concerns, part_of, edit_nth, has_carrier, sets_some, new_carrier, lists_act, lists_act_by}
-use Rattle.wave_model.specs.Fields.{bodies, body_in, is_bext, is_info}
+use Rattle.wave_model.specs.Fields.{bodies, is_bext, is_info}
 use Rattle.wave_model.specs.Carry.{some_chunk}
 use Rattle.wave_model.proofs.Acts.{insert_bodies}
-use Rattle.info_list.specs.Info.{tokens_of}
 use Rattle.edit_planner.specs.declared.cells.CellAt.{CellAt}
 use Rattle.edit_planner.specs.declared.cells.Content.{Content}
 use Rattle.edit_planner.specs.declared.cells.Content.TheVariants.{Kept, Body, Listed, Gap, Edited}

@@ -9,10 +9,10 @@ use Rattle.part_tree.specs.Letters.{four}
 use Rattle.part_tree.specs.declared.part.Part.{Part}
 use Rattle.part_tree.specs.declared.part.Role.{Role}
 use Rattle.part_tree.specs.declared.part.Role.TheVariants.{Opaque, Padding, Bext, Info, Whole, Sizes, Tables, UserData, Essence, Rest}
-use Rattle.container_model.specs.Chunk.{Chunk, ends, header_bytes, pad_len, spell, spell_all}
-use Rattle.container_model.specs.Units.{Cell, lacks_pad}
+use Rattle.container_model.specs.Chunk.{Chunk, header_bytes, pad_len, spell}
+use Rattle.container_model.specs.Units.{lacks_pad}
 use Rattle.container_model.specs.Written.{slice}
-use Rattle.container_model.proofs.Plain.{IsPlain, ArePlain, plain_chunks, plain_left}
+use Rattle.container_model.proofs.Plain.{ArePlain, plain_chunks, plain_left}
 use Rattle.carrier_model.specs.Info.{own_size, is_padding, list_run}
 use Rattle.carrier_model.proofs.Info.{padding_no_list}
 use Rattle.info_list.specs.Info.{IsInfo, item_of, items_run}
@@ -23,12 +23,11 @@ use Rattle.wave_model.specs.Fields.{is_bext, is_info}
 use Rattle.wave_model.specs.Why.{is_data}
 use Rattle.wave_model.proofs.Acts.{junk_id, junk_bext}
 use Rattle.wave_file.specs.Map.{is_field, role_of, at_front, part_as}
-use Rattle.wave_file.proofs.Roles.{list_holds, whole_holds, bext_holds}
-use Rattle.edit_planner.specs.declared.cells.CellAt.{CellAt}
+use Rattle.wave_file.proofs.Roles.{bext_holds}
 use Rattle.edit_planner.specs.declared.cells.Content.{Content}
-use Rattle.edit_planner.specs.declared.cells.Content.TheVariants.{Kept, Body, Listed, Gap, Edited}
+use Rattle.edit_planner.specs.declared.cells.Content.TheVariants.{Kept, Body, Listed, Gap}
 use Rattle.edit_planner.specs.Cells.{IsReadable, content_of, list_in, told}
-use Rattle.edit_planner.specs.Stand.{StandsAt, StandFrom, cell_at, told_chunks}
+use Rattle.edit_planner.specs.Stand.{StandsAt, cell_at}
 
 -- ---- a list that is read
 

@@ -1,10 +1,9 @@
 -- A row of cells of the model, as a planner holds it: what the tests see, and what a change of the cells makes of it.
-use Rattle.std.proofs.Common.{◌≡◌, ◌∙◌, ◌≤◌, ◌<◌, ℕ, zero, suc, ◌+◌, Bool, true, false, List, [], ◌∷◌, ◌++◌, length, map, refl, sym, ap, arith, subst}
+use Rattle.std.proofs.Common.{◌≡◌, ◌∙◌, ℕ, suc, ◌+◌, Bool, true, false, List, [], ◌∷◌, ◌++◌, length, refl, sym, ap, arith}
 use Rattle.std.specs.Prelude.{◌&&◌, ◌||◌, ◌==◌, nat_lt, if◌then◌else◌, codes}
 use Rattle.std.specs.Str.{bytes_eq}
 use Rattle.std.specs.List.{flat_map, list_any, AllByRecursion}
 use Rattle.std.proofs.lemmas.List.{append-nil}
-use Rattle.std.proofs.lemmas.List.Concat.{flat_map-append}
 use Rattle.std.proofs.lemmas.Bool.{and_parts, lt-ltb}
 use Rattle.part_tree.specs.Letters.{four}
 use Rattle.part_tree.specs.declared.part.Role.{Role}
@@ -12,20 +11,19 @@ use Rattle.part_tree.specs.declared.part.Role.TheVariants.{Opaque, Padding, Bext
 use Rattle.part_tree.specs.Names.{whole_ids}
 use Rattle.container_model.proofs.Items.{same_true}
 use Rattle.container_model.specs.Chunk.{Chunk, spell, spell_all}
-use Rattle.container_model.specs.Units.{Cell, kept, gap, edited, was, live, lacks_pad}
-use Rattle.carrier_model.specs.Cells.{Change, leave, become, changed, changed_cell, change_at, counted, count_all, settle, settle_cells, Test, Side, behind, before, meets, some_meets, beside, insert, only_gaps, new_cell, insert_cell}
+use Rattle.container_model.specs.Units.{Cell, kept, gap, edited, was, live}
+use Rattle.carrier_model.specs.Cells.{Change, leave, become, changed_cell, count_all, settle, settle_cells, Test, Side, behind, before, meets, some_meets, beside, only_gaps, new_cell, insert_cell}
 use Rattle.carrier_model.specs.Info.{own_size, is_padding, one_of}
 use Rattle.wave_model.specs.Fields.{is_bext, is_info, is_whole as is_field}
 use Rattle.wave_model.specs.Why.{is_data}
-use Rattle.wave_model.proofs.Values.{eq_sym}
 use Rattle.wave_file.specs.Map.{is_field as is_whole_field, role_of, at_front}
-use Rattle.wave_file.proofs.Roles.{list_holds, whole_holds, bext_holds}
+use Rattle.wave_file.proofs.Roles.{list_holds, bext_holds}
 use Rattle.unit_plan.specs.Shapes.{parts_in}
 use Rattle.edit_planner.specs.declared.cells.CellAt.{CellAt}
 use Rattle.edit_planner.specs.declared.cells.Content.{Content}
 use Rattle.edit_planner.specs.declared.cells.Content.TheVariants.{Kept, Body, Listed, Gap, Edited}
 use Rattle.edit_planner.specs.Cells.{content_of, list_in, part_count, told, told_row, Unmet}
-use Rattle.edit_planner.specs.Row.{is_gap, is_body, is_list, is_format, is_whole, is_field as names_whole, all_gaps, changed_row, count_row, edited_at, new_at, stops, put_new}
+use Rattle.edit_planner.specs.Row.{is_gap, is_body, is_list, is_format, is_whole, is_field as names_whole, all_gaps, changed_row, count_row, new_at, stops, put_new}
 
 -- ---- what the tests see of a chunk
 

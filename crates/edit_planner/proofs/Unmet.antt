@@ -1,5 +1,5 @@
 -- What stands where something was edited meets no test of another part of the edit.
-use Rattle.std.proofs.Common.{◌≡◌, ◌∙◌, ℕ, zero, suc, Bool, true, false, List, [], ◌∷◌, map, refl, sym, ap}
+use Rattle.std.proofs.Common.{◌≡◌, ◌∙◌, ℕ, zero, suc, Bool, true, false, List, [], ◌∷◌, map, refl, ap}
 use Rattle.std.specs.Prelude.{◌&&◌, Option, Some, None, codes, if◌then◌else◌}
 use Rattle.std.specs.Str.{bytes_eq}
 use Rattle.std.specs.List.{flat_map, AllByRecursion}
@@ -14,7 +14,7 @@ use Rattle.field_model.specs.Bext.{new_body}
 use Rattle.field_model.specs.Body.{edited_bext}
 use Rattle.carrier_model.specs.Cells.{leave, become, never, acted_cells}
 use Rattle.carrier_model.specs.Lists.{items_of, all_items, home, concerns, has_carrier, sets_some, new_carrier, lists_act, lists_act_by}
-use Rattle.carrier_model.specs.Info.{own_size, one_of, made, info, info_items}
+use Rattle.carrier_model.specs.Info.{one_of, made, info, info_items}
 use Rattle.carrier_model.proofs.Cells.{Makes, made_by}
 use Rattle.wave_model.specs.Fields.{is_bext, is_info, is_whole}
 use Rattle.wave_model.specs.Carry.{Step, steps, info_part, bext_act, bext_by, edits_bext, first_becomes, whole_by, whole_act, whole_part, some_chunk, carried}

@@ -1,6 +1,6 @@
 -- The places of an edit of a WAVE or RF64 file.
 use Rattle.std.specs.declared.result.Result.TheVariants.{Ok, Err}
-use Rattle.std.specs.Prelude.{◌≡◌, ℕ, ◌^◌, List, [], ◌∷◌, map, drop, Bool, true, false, if◌then◌else◌, Option, Some, None, Result}
+use Rattle.std.specs.Prelude.{◌≡◌, ℕ, ◌^◌, List, [], ◌∷◌, map, Bool, true, false, if◌then◌else◌, Some, None, Result}
 use Rattle.part_tree.specs.declared.part.Part.{Part}
 use Rattle.part_tree.specs.declared.part.Role.{Role}
 use Rattle.part_tree.specs.declared.part.Role.TheVariants.{Sizes}

@@ -1,15 +1,13 @@
 -- Chunks in the bytes of a file, and the parts of a map as cells.
-use Rattle.std.specs.Prelude.{◌≡◌, ◌≤◌, ℕ, ◌+◌, ◌%◌, ◌==◌, List, [], ◌∷◌, length, map, Bool, ◌&&◌, not}
+use Rattle.std.specs.Prelude.{◌≡◌, ℕ, ◌+◌, ◌%◌, ◌==◌, List, [], ◌∷◌, length, ◌&&◌, not}
 use Rattle.container_model.specs.Chunk.{Chunk, header_bytes, pad_len, spell}
 use Rattle.container_model.specs.Units.{Cell}
-use Rattle.container_model.specs.Windows.{window}
 use Rattle.container_model.specs.Written.{slice}
 use Rattle.carrier_model.specs.Info.{is_padding}
 use Rattle.wave_model.specs.Wave.{cell_by}
 use Rattle.unit_plan.specs.declared.place.Place.{Place}
 use Rattle.unit_plan.specs.declared.place.What.{What}
 use Rattle.unit_plan.specs.declared.place.What.TheVariants.{Stays, Pads, Changes}
-use Rattle.info_list.specs.declared.InfoList.{InfoList}
 use Rattle.edit_planner.specs.declared.cells.CellAt.{CellAt}
 use Rattle.edit_planner.specs.declared.cells.Content.{Content}
 use Rattle.edit_planner.specs.declared.cells.Content.TheVariants.{Kept, Body, Listed, Gap, Edited}

@@ -1,6 +1,5 @@
-use Rattle.std.proofs.Common.{◌<◌, ◌≤◌, ◌+◌, arith, length, refl, if◌then◌else◌}
+use Rattle.std.proofs.Common.{◌<◌, arith, length}
 use Rattle.std.proofs.lemmas.List.{length-set}
-use Rattle.std.specs.Prelude.{Bool, true, false, ℕ}
 use Rattle.bext_fields.specs.Change.{raw_items_of}
 use Rattle.edit_planner.specs.Row.{is_body, body_edited}
 use Rattle.edit_planner.proofs.Row.{change_step, count_step, count_few}

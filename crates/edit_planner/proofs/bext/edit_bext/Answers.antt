@@ -1,4 +1,4 @@
-use Rattle.std.proofs.Common.{◌∙◌, ◌≡◌, sym, ap, arith, true}
+use Rattle.std.proofs.Common.{◌∙◌, sym, arith, true}
 use Rattle.bext_fields.specs.Change.{raw_items_of}
 use Rattle.edit_planner.specs.declared.cells.Content.TheVariants.{Edited}
 use Rattle.wave_file.proofs.Roles.{ok_map}

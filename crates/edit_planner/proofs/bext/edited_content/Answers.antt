@@ -1,4 +1,4 @@
-use Rattle.std.proofs.Common.{◌∙◌, ◌≡◌, ap, length, List, ℕ, arith, sym, refl, ◌<◌, ◌^◌}
+use Rattle.std.proofs.Common.{◌∙◌}
 use Rattle.edit_planner.proofs.BextChunk.{fine_fits, edited_small}
 use Rattle.edit_planner.proofs.bext.edited_content.Goals as goal
 

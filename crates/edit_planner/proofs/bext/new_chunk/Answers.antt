@@ -1,7 +1,4 @@
-use Rattle.std.proofs.Common.{◌∙◌, ◌≡◌, ap, List, ℕ, codes}
-use Rattle.std.specs.Prelude.{IfOk, Result}
-use Rattle.container_model.specs.Chunk.{spell}
-use Rattle.carrier_model.specs.Info.{made}
+use Rattle.std.proofs.Common.{◌∙◌}
 use Rattle.edit_planner.proofs.BextChunk.{fine_fits, new_small}
 use Rattle.edit_planner.proofs.bext.new_chunk.Goals as goal
 

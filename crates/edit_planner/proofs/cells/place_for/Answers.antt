@@ -1,7 +1,7 @@
-use Rattle.std.proofs.Common.{◌≡◌, ◌≤◌, ◌∙◌, ◌+◌, ◌&&◌, true, false, refl, ap, arith, sym, ℕ, Bool, drop, length}
+use Rattle.std.proofs.Common.{◌≡◌, ◌∙◌, ◌&&◌, true, false, refl, ap, arith, sym, ℕ, Bool}
 use Rattle.std.specs.Prelude.{if◌then◌else◌}
 use Rattle.std.proofs.lemmas.List.{drop_all}
-use Rattle.edit_planner.specs.Row.{place_from, place_for, is_format, is_gap}
+use Rattle.edit_planner.specs.Row.{place_from, place_for, is_format}
 use Rattle.edit_planner.proofs.Row.{place_step, place_found, place_inside}
 use Rattle.edit_planner.proofs.cells.place_for.Goals as goal
 

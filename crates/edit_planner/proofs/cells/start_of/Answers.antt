@@ -1,4 +1,4 @@
-use Rattle.std.proofs.Common.{◌≡◌, ◌∙◌, ◌-◌, suc, ap, arith, sym}
+use Rattle.std.proofs.Common.{◌≡◌, ◌∙◌, ◌-◌, suc, ap, arith}
 use Rattle.edit_planner.specs.Row.{starts_at}
 use Rattle.edit_planner.proofs.Row.{start_at}
 use Rattle.edit_planner.proofs.cells.start_of.Goals as goal

@@ -1,4 +1,4 @@
-use Rattle.std.proofs.Common.{◌≡◌, ◌∙◌, refl, ap, sym, List, ℕ}
+use Rattle.std.proofs.Common.{◌∙◌, refl, ap, sym, List, ℕ}
 use Rattle.std.specs.List.{flat_map}
 use Rattle.container_model.specs.Units.{Cell, live}
 use Rattle.carrier_model.specs.Cells.{acted_cells}

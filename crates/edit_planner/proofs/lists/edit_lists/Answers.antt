@@ -1,7 +1,7 @@
-use Rattle.std.proofs.Common.{◌∙◌, ◌≡◌, sym, ap, arith, subst, true, false, List, ℕ}
+use Rattle.std.proofs.Common.{◌∙◌, ◌≡◌, sym, ap, arith, subst, false, List, ℕ}
 use Rattle.std.specs.Prelude.{Option, Some, None}
 use Rattle.bext_fields.specs.Change.{raw_items_of}
-use Rattle.carrier_model.specs.Lists.{home, sets_some}
+use Rattle.carrier_model.specs.Lists.{home}
 use Rattle.wave_model.specs.Carry.{info_part}
 use Rattle.edit_planner.specs.declared.cells.CellAt.{CellAt}
 use Rattle.edit_planner.specs.declared.cells.Content.{Content}

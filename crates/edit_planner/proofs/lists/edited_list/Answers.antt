@@ -1,6 +1,6 @@
-use Rattle.std.proofs.Common.{◌≡◌, ◌∙◌, ap, sym, List}
+use Rattle.std.proofs.Common.{◌∙◌, ap}
 use Rattle.info_list.specs.Changes.{changes_of}
-use Rattle.edit_planner.proofs.InfoLists.{changed_readable, changed_as}
+use Rattle.edit_planner.proofs.InfoLists.{changed_readable}
 use Rattle.edit_planner.proofs.lists.edited_list.Goals as goal
 
 pub spelled_list-requires : goal.spelled_list-requires

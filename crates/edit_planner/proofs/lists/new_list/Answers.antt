@@ -1,4 +1,4 @@
-use Rattle.std.proofs.Common.{◌∙◌, ap, sym}
+use Rattle.std.proofs.Common.{◌∙◌, ap}
 use Rattle.info_list.specs.Changes.{changes_of}
 use Rattle.edit_planner.specs.Lists.{part_in}
 use Rattle.edit_planner.proofs.InfoLists.{new_is}

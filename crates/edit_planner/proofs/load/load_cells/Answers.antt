@@ -1,10 +1,9 @@
-use Rattle.std.proofs.Common.{◌≡◌, ◌∙◌, ◌≤◌, ◌<◌, ◌+◌, arith, get_or, length, refl, sym, subst, rules, ℕ, List}
+use Rattle.std.proofs.Common.{◌≤◌, ◌<◌, arith, get_or, length, refl, sym, subst, rules, ℕ, List}
 use Rattle.me_disk.specs.Holds.{Holds, Inside}
 use Rattle.edit_planner.specs.declared.cells.CellAt.{CellAt}
 use Rattle.edit_planner.specs.Cells.{AreReadable, Follow}
-use Rattle.me_disk.specs.Steps.{ReadsOnly}
 use Rattle.me_disk.proofs.Holds.{holds_on}
-use Rattle.edit_planner.proofs.Loads.{inside_on, no_part, none_loaded, next_chunk, one_loaded, all_loaded, follow_more, ascend_next, ascend_end, readable_push}
+use Rattle.edit_planner.proofs.Loads.{inside_on, no_part, next_chunk, one_loaded, all_loaded, follow_more, ascend_next, ascend_end, readable_push}
 use Rattle.edit_planner.proofs.load.load_cells.Goals as goal
 
 pub load_cell-requires-clause-inside : goal.load_cell-requires-clause-inside

@@ -1,8 +1,5 @@
-use Rattle.std.proofs.Common.{◌≡◌, ◌∙◌, sym, ap, List, ℕ}
-use Rattle.part_tree.specs.Letters.{four}
+use Rattle.std.proofs.Common.{◌≡◌, ◌∙◌, sym, ap}
 use Rattle.part_tree.specs.declared.part.Part.{Part}
-use Rattle.wave_file.specs.Map.{at_front, role_of}
-use Rattle.edit_planner.specs.declared.cells.Content.{Content}
 use Rattle.edit_planner.specs.declared.cells.Content.TheVariants.{Kept, Body, Listed}
 use Rattle.edit_planner.specs.Cells.{list_in, told}
 use Rattle.edit_planner.specs.Stand.{cell_at}

@@ -1,4 +1,4 @@
-use Rattle.std.proofs.Common.{◌∙◌, ◌≡◌, ap, sym, refl, subst, List, ℕ, map, drop, length, take}
+use Rattle.std.proofs.Common.{◌∙◌, ◌≡◌, ap, sym, refl, subst, List, ℕ, map, drop}
 use Rattle.std.specs.Prelude.{Some, None, ◌^◌}
 use Rattle.std.specs.List.{flat_map}
 use Rattle.container_model.specs.Units.{live}
@@ -14,7 +14,6 @@ use Rattle.wave_model.specs.Wave.{wave_of, cells_of}
 use Rattle.wave_model.proofs.Why.{why_supported}
 use Rattle.edit_planner.specs.Stand.{placed}
 use Rattle.edit_planner.specs.Places.{begins_at, first_child, list_sizes}
-use Rattle.edit_planner.specs.declared.cells.CellAt.{CellAt}
 use Rattle.edit_planner.proofs.ListSizes.{sizes_laid, small_cells}
 use Rattle.edit_planner.proofs.Shaped.{row_told, before_told, cells_unedited, places_follow, tail_of}
 use Rattle.edit_planner.proofs.wave.places_of.Goals as goal

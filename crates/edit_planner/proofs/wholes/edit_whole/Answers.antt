@@ -1,6 +1,6 @@
-use Rattle.std.proofs.Common.{◌≡◌, ◌∙◌, ◌-◌, sym, ap, subst, refl, arith, ℕ, List, take}
+use Rattle.std.proofs.Common.{◌≡◌, ◌∙◌, sym, ap, arith, ℕ, take}
 use Rattle.std.specs.List.{flat_map}
-use Rattle.std.specs.Prelude.{Option, Some, None}
+use Rattle.std.specs.Prelude.{Option, None}
 use Rattle.part_tree.specs.declared.field.Value.{Value}
 use Rattle.container_model.specs.Units.{live}
 use Rattle.carrier_model.specs.Cells.{acted_cells}
@@ -9,7 +9,6 @@ use Rattle.wave_model.specs.Fields.{is_whole as is_field}
 use Rattle.wave_model.specs.Carry.{some_chunk, whole_by, whole_part}
 use Rattle.wave_file.proofs.Roles.{ok_map}
 use Rattle.edit_planner.specs.Cells.{told_row}
-use Rattle.edit_planner.specs.declared.cells.CellAt.{CellAt}
 use Rattle.edit_planner.proofs.WholeChunks.{last_named, none_named}
 use Rattle.edit_planner.proofs.wholes.edit_whole.Goals as goal
 

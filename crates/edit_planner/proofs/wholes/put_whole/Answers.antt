@@ -1,4 +1,4 @@
-use Rattle.std.proofs.Common.{◌≡◌, ◌∙◌, sym, ap, refl, arith, ℕ, List}
+use Rattle.std.proofs.Common.{◌∙◌, ap, arith, ℕ, List}
 use Rattle.container_model.specs.Chunk.{spell}
 use Rattle.carrier_model.specs.Info.{made}
 use Rattle.edit_planner.specs.declared.cells.Content.TheVariants.{Edited}
