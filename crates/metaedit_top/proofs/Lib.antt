@@ -1,7 +1,7 @@
-pub mod Plains
-pub mod Said
-pub mod Copies
-pub mod Installs
-pub mod Replaces
-pub mod Ends
-pub mod Again
+pub mod ItemWords
+pub mod FileReads
+pub mod Acted
+pub mod Ran
+pub mod Tops
+pub mod Changes
+pub mod Sets

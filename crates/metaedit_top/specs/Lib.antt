@@ -1,6 +1,7 @@
 pub mod Words
-pub mod Plain
-pub mod Rewrite
-pub mod Reads
+pub mod Asked
 pub mod Run
+pub mod Stage
 pub mod Text
+pub mod Changed
+pub mod Set

@@ -1,20 +1,23 @@
-//! The editor of the title of plain WAVE files: one call does all that the program does.
-//! It reads the words and the file, writes the new file beside the old one, puts it in the old one's place in one step,
-//! and prints one line. It knows no device, and of the formats the chunks `fmt `, `data` and `LIST INFO` of a plain file.
+//! The editor of the metadata of WAVE and RF64 files: one call does all that the program does.
+//! It reads the words, settles the file after a crash, reads it, edits it in place or writes it anew, and prints one report.
+//! It knows no device.
 #![tactic(auto)]
 
+mod change;
+mod file;
 mod outcome;
-mod plain;
-mod rewrite;
-#[cfg(test)]
-mod tests;
+mod run;
+mod set;
 mod text;
-mod title;
 mod top;
+mod word;
 mod words;
 
-pub use outcome::{Outcome, Summary, UsageFault, Why};
-pub use plain::new_file_reads_back;
+pub use file::read_file;
+pub use me_report::Summary;
+pub use outcome::{Outcome, UsageFault};
+pub use part_tree::Why;
 pub use text::{code, line_of};
 pub use top::metaedit;
-pub use words::Word;
+pub use word::Word;
+pub use words::{Command, Request, RequestFault, read_request};

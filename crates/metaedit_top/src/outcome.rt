@@ -1,16 +1,11 @@
 // What a run answers.
 ghost use Rattle.std.specs.Prelude.{◌≡◌};
-ghost use Rattle.metaedit_top.specs.declared.outcome.Stop.TheVariants.{Depot, Memory};
+ghost use Rattle.metaedit_top.specs.declared.outcome.Stop.TheVariants as stop;
 
 use me_bytes::NoMemory;
 use me_disk::DepotFault;
-
-/// Why a file is refused.
-#[derive(Clone, Copy, Debug, PartialEq, Eq)]
-pub enum Why {
-    /// The file isn't plain, so this program can't edit it.
-    NotBuilt,
-}
+use me_report::Summary;
+use part_tree::{Broken, Bytes, Why};
 
 /// What is wrong with the words of the command line.
 #[derive(Clone, Copy, Debug, PartialEq, Eq)]
@@ -19,27 +14,20 @@ pub enum UsageFault {
     NoCommand,
     /// The first word is no command.
     UnknownCommand,
-    /// The words behind the command aren't a file and `INAM=TITLE`.
+    /// The words behind the command aren't those that it takes.
     Words,
-}
-
-/// What a run has done that came to its end.
-#[derive(Clone, Copy, Debug, PartialEq, Eq)]
-pub struct Summary {
-    /// The file is another than before.
-    pub changed: bool,
-    /// It was changed in place, and not written anew.
-    pub in_place: bool,
-    /// The length of the sound in bytes, which is the body of the chunk `data`.
-    pub payload: u64,
-    /// How many findings were printed.
-    pub findings: u32,
+    /// Item n, from 1, has no `=`, or nothing before it.
+    Item { n: u64 },
+    /// What stands before the `=` of item n names no field.
+    Field { n: u64 },
+    /// Item n names the field of an earlier one.
+    Twice { n: u64 },
 }
 
 /// What a run answers.
 #[derive(Clone, Copy, Debug, PartialEq, Eq)]
 pub enum Outcome {
-    /// The new file stands and its line was printed.
+    /// The run came to its end, and its report was printed.
     Done(Summary),
     /// The words are refused.
     Usage(UsageFault),
@@ -51,10 +39,21 @@ pub enum Outcome {
     JournalDamaged { at: u64 },
     /// The file is refused.
     NotSupported(Why),
+    /// The edit breaks a rule.
+    RuleBroken(Broken),
+    /// A size of the new file passes its limit.
+    TooLarge { size: u64, limit: u64 },
     /// The output failed; the file was edited before it, or not.
     OutFault { edited: bool },
     /// There was no memory.
     Memory,
+}
+
+/// What a run has done and is to print.
+#[derive(Debug, Drop)]
+pub(crate) struct Finished {
+    pub(crate) summary: Summary,
+    pub(crate) text: Bytes,
 }
 
 /// Why a run stops before its output.
@@ -62,13 +61,15 @@ pub enum Outcome {
 pub(crate) enum Stop {
     Depot,
     NoFile,
-    JournalStands,
-    NotPlain,
+    Damaged { at: u64 },
+    NotSupported(Why),
+    RuleBroken(Broken),
+    TooLarge { size: u64, limit: u64 },
     Memory,
 }
 
 impl From<DepotFault> for Stop {
-    ghost from_gives = { λ _ e. e ≡ Depot };
+    ghost from_gives = { λ _ e. e ≡ stop.Depot };
 
     fn from(_: DepotFault) -> Stop {
         Stop::Depot
@@ -76,7 +77,7 @@ impl From<DepotFault> for Stop {
 }
 
 impl From<NoMemory> for Stop {
-    ghost from_gives = { λ _ e. e ≡ Memory };
+    ghost from_gives = { λ _ e. e ≡ stop.Memory };
 
     fn from(_: NoMemory) -> Stop {
         Stop::Memory

@@ -1,0 +1,102 @@
+// The edit of a file that stands alone, where each item has an effect and no rule is broken.
+ghost use Rattle.std.specs.Prelude.{◌≡◌, ◌≤◌, ℕ, List, IsTrue, IfOk, IfErr, OnOk, Ok, Err};
+ghost use Rattle.me_bytes.specs.Bytes.{IsBytes};
+ghost use Rattle.me_disk.specs.Disk.{Only, Leaves, read_as, bytes_of};
+ghost use Rattle.me_disk.specs.Holds.{Holds};
+ghost use Rattle.me_report.specs.Done.{done_line as line_of};
+ghost use Rattle.edit_journal.specs.Settled.{StandsAlone};
+ghost use Rattle.file_swap.specs.Plans.{Belongs};
+ghost use Rattle.file_swap.specs.Swap.{Runs, fresh};
+ghost use Rattle.edit_planner.specs.Plan.{IsReady, Maps, SoundMap, fields_in, kind_in};
+ghost use Rattle.metaedit_top.specs.Changed.{ChangeLeaves, ChangeStops, IsChanged, MayChange};
+ghost use Rattle.metaedit_top.specs.Changed as spec;
+ghost use Rattle.metaedit_top.specs.Stage.{IsSettled, OnHeld};
+
+use crate::outcome::{Finished, Stop};
+use core_edit::Edit;
+use edit_planner::{FileMap, PlanFault, plan};
+use file_swap::Swap;
+use me_disk::{Depot, DepotFault};
+use me_report::{Summary, done_line};
+use part_tree::{Bytes, NoMemory, Plan};
+use std::alloc::Global;
+
+// Whether a plan is one in place.
+fn is_in_place(plan: &Plan) -> bool
+    ensures { result ≡ spec.is_in_place plan.now }
+{
+    match plan {
+        Plan::InPlace {
+            old_len: _,
+            new_len: _,
+            patches: _,
+        } => true,
+        Plan::Rewrite {
+            new_len: _,
+            segments: _,
+        } => false,
+    }
+}
+
+/// What is told of an edit that is done.
+pub(crate) fn tell_edit(alloc: Global, summary: Summary) -> Result<Finished, NoMemory>
+    ensures summary { IfOk result (λ f. f.summary ≡ summary) }
+    ensures text { IfOk result (λ f. f.text ≡ line_of summary) }
+{
+    let text = Bytes::new(alloc, done_line(&summary).as_slice())?;
+    Ok(Finished { summary, text })
+}
+
+// Carries a plan out on the file that stands alone.
+fn carry_out<D: Depot>(depot: &mut D, swap: Swap) -> Result<(), DepotFault>
+    requires fresh { swap ≡ fresh swap.plan }
+    requires alone { StandsAlone (bytes_of (D.disk depot.old).slots.main) (D.disk depot.old) }
+    requires belongs { IsTrue (D.disk depot.old).tells → Belongs swap.plan (bytes_of (D.disk depot.old).slots.main) }
+    ensures { Runs swap (bytes_of (D.disk depot.old).slots.main) (D.disk depot.old) (D.disk depot.new) result }
+{
+    swap.run(depot)
+}
+
+/// Edits a file that stands alone, by its map; its sound has `payload` bytes.
+pub(crate) fn change<D: Depot>(
+    alloc: Global,
+    depot: &mut D,
+    map: &FileMap,
+    payload: u64,
+    edit: &Edit,
+) -> Result<Finished, Stop>
+    requires settled { IsSettled (D.disk depot.old) }
+    requires mapped { (o : List ℕ) → Holds (D.disk depot.old) o → Maps o map.now }
+    requires sound { SoundMap map.now }
+    requires ready { IsReady (kind_in map.now) (fields_in map.now) edit.now }
+    ensures changes { OnHeld (D.disk depot.old) (λ o. IsBytes o → IfOk result (IsChanged o edit.now payload (D.disk depot.old) (D.disk depot.new))) }
+    ensures stops { IfErr result (ChangeStops edit.now (D.disk depot.old) (D.disk depot.new)) }
+    ensures leaves { IfErr result (ChangeLeaves edit.now (D.disk depot.old) (D.disk depot.new)) }
+    ensures crash { Leaves (MayChange edit.now (D.disk depot.old)) (D.disk depot.old) (D.disk depot.new) }
+    ensures again { OnOk result (Only (read_as (D.disk depot.new).slots) (D.disk depot.new)) }
+{
+    let plan = match plan(alloc, depot, map, edit) {
+        Err(PlanFault::TooLarge { size, limit }) => return Err(Stop::TooLarge { size, limit }),
+        Err(PlanFault::Depot) => return Err(Stop::Depot),
+        Err(PlanFault::Memory) => return Err(Stop::Memory),
+        Ok(plan) => plan,
+    };
+    let summary = Summary {
+        changed: true,
+        in_place: is_in_place(&plan),
+        payload,
+        findings: 0,
+    };
+    let finished = match tell_edit(alloc, summary) {
+        Err(_) => return Err(Stop::Memory),
+        Ok(finished) => finished,
+    };
+    let swap = match Swap::new(alloc, plan) {
+        Err(_) => return Err(Stop::Memory),
+        Ok(swap) => swap,
+    };
+    match carry_out(depot, swap) {
+        Err(_) => Err(Stop::Depot),
+        Ok(()) => Ok(finished),
+    }
+}
