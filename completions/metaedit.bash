@@ -1,0 +1,36 @@
+# Completion of metaedit for bash. Source this file, or put it where bash-completion looks for `metaedit`.
+_metaedit() {
+    local commands='set recover'
+    local with_rules=' set '
+    # telling commands: begin
+    commands="$commands show validate md5"
+    with_rules=' set validate '
+    # telling commands: end
+    local rules='base ebu info fadgi'
+    local fields='Description= Originator= OriginatorReference= OriginationDate= OriginationTime= TimeReference= UMID=
+        LoudnessValue= LoudnessRange= MaxTruePeakLevel= MaxMomentaryLoudness= MaxShortTermLoudness= CodingHistory=
+        IARL= IART= ICMS= ICMT= ICOP= ICRD= IENG= IGNR= IKEY= IMED= INAM= IPRD= ISBJ= ISFT= ISRC= ISRF= ITCH=
+        axml= iXML= XMP= MD5='
+    local word=${COMP_WORDS[COMP_CWORD]} command=${COMP_WORDS[1]-}
+    COMPREPLY=()
+    # the value of `--rules=` comes as words of its own, since bash splits at `=`
+    if [ "$COMP_CWORD" -ge 4 ] && [ "${COMP_WORDS[3]}" = --rules ] &&
+        { [ "$COMP_CWORD" = 4 ] || { [ "$COMP_CWORD" = 5 ] && [ "${COMP_WORDS[4]}" = '=' ]; }; }; then
+        COMPREPLY=($(compgen -W "$rules" -- "${word#=}"))
+        return
+    fi
+    case $COMP_CWORD in
+        1) COMPREPLY=($(compgen -W "$commands" -- "$word")) ;;
+        2) compopt -o filenames 2>/dev/null; COMPREPLY=($(compgen -f -- "$word")) ;;
+        *)
+            if [ "$COMP_CWORD" = 3 ] && [[ $with_rules = *" $command "* ]]; then
+                COMPREPLY=($(compgen -W '--rules' -- "$word"))
+            fi
+            if [ "$command" = set ]; then
+                compopt -o nospace 2>/dev/null
+                COMPREPLY+=($(compgen -W "$fields" -- "$word"))
+            fi
+            ;;
+    esac
+}
+complete -F _metaedit metaedit
