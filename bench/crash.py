@@ -1,0 +1,184 @@
+#!/usr/bin/env python3
+"""Kills `metaedit` (SIGKILL) at random moments of edits in place, of rewrites and of recoveries on the real disk, runs `recover`,
+and compares the file with the old one and the new one, byte for byte. It ends with status 1 where the file is neither.
+
+It is a test and no proof: some hundred moments of all there are, and a killed process leaves what it wrote in the system's cache,
+so nothing is shown of a loss of power.
+
+  bench/crash.py [RUNS] [FOLDER]     RUNS of each kind, else 100; FOLDER is on the disk to be used, else a new one beside this clone
+METAEDIT names a built program; else the script `metaedit` builds it.
+"""
+
+import os
+import random
+import shutil
+import subprocess
+import sys
+import tempfile
+import time
+
+TOP = os.path.dirname(os.path.dirname(os.path.abspath(__file__)))
+
+
+def built():
+    """The path of the program, built where it isn't yet."""
+    named = os.environ.get("METAEDIT")
+    if named:
+        return os.path.abspath(named)
+    build = subprocess.Popen(
+        [os.path.join(TOP, "metaedit")], stdin=subprocess.DEVNULL, stdout=subprocess.PIPE, stderr=subprocess.STDOUT, text=True)
+    for line in build.stdout:
+        if not line.startswith("refused"):  # without words the editor refuses and touches no file
+            print(line, end="", file=sys.stderr, flush=True)
+    build.wait()
+    return os.path.join(TOP, "crates", "metaedit", "out", "metaedit")
+
+
+def chunk(name, body):
+    return name + len(body).to_bytes(4, "little") + body + b"\0" * (len(body) % 2)
+
+
+def wave(*chunks):
+    return chunk(b"RIFF", b"WAVE" + b"".join(chunks))
+
+
+FORMAT = chunk(b"fmt ", bytes.fromhex("0100010044ac00008858010002001000"))
+
+
+def read(path):
+    with open(path, "rb") as file:
+        return file.read()
+
+
+def write(path, content):
+    with open(path, "wb") as file:
+        file.write(content)
+        file.flush()
+        os.fsync(file.fileno())
+
+
+class Mismatch(Exception):
+    pass
+
+
+class Bench:
+    def __init__(self, program, folder):
+        self.program = program
+        self.file = os.path.join(folder, "f.wav")
+        self.journal = self.file + ".mej"
+        self.work = self.file + ".met"
+
+    def start(self, command, words=()):
+        return subprocess.Popen(
+            [self.program, command, self.file, *words],
+            stdin=subprocess.DEVNULL, stdout=subprocess.PIPE, stderr=subprocess.STDOUT)
+
+    def whole(self, command, words=()):
+        """A run that nobody kills: what it prints, and its seconds."""
+        begin = time.monotonic()
+        child = self.start(command, words)
+        printed = child.communicate()[0].decode()
+        if child.returncode != 0:
+            raise Mismatch(f"{command} answers {child.returncode} {printed!r}")
+        return printed.strip(), time.monotonic() - begin
+
+    def killed(self, command, words, seconds):
+        """Kills a run so long after its start; whether it hadn't ended."""
+        begin = time.monotonic()
+        child = self.start(command, words)
+        time.sleep(max(0.0, begin + seconds - time.monotonic()))
+        child.kill()
+        child.communicate()
+        return child.returncode == -9
+
+    def lay(self, main, journal=None):
+        for path in (self.journal, self.work):
+            if os.path.exists(path):
+                os.remove(path)
+        write(self.file, main)
+        if journal is not None:
+            write(self.journal, journal)
+
+    def runs(self, name, count, command, words, main, journal, allowed):
+        """Kills `count` runs; `allowed` names the files that may stand after `recover`. The first state where a journal has work left is given."""
+        durations = []
+        for _ in range(5):
+            self.lay(main, journal)
+            durations.append(self.whole(command, words)[1])
+        longest = sorted(durations)[2] * 1.1
+        tally = dict.fromkeys(["killed", "journal", "old", "new", "redone", "nothing"], 0)
+        kept = None
+        for _ in range(count):
+            self.lay(main, journal)
+            tally["killed"] += self.killed(command, words, random.uniform(0.0, longest))
+            if os.path.exists(self.journal):
+                tally["journal"] += 1
+                left = read(self.file)
+                if kept is None and left != allowed["new"]:
+                    kept = left, read(self.journal)
+            printed = self.whole("recover")[0]
+            if printed not in ("recovered redone", "recovered nothing"):
+                raise Mismatch(f"{name}: recover prints {printed!r}")
+            tally[printed.split()[1]] += 1
+            self.compare(name, allowed, tally)
+        print(f"{name}: {count} runs of {longest * 1000 / 1.1:.0f} ms, {tally['killed']} killed before the end, "
+              f"{tally['journal']} with a journal left; recover: {tally['redone']} redone, {tally['nothing']} nothing; "
+              f"then {tally['old']} old, {tally['new']} new", flush=True)
+        return kept
+
+    def compare(self, name, allowed, tally):
+        after = read(self.file)
+        for path in (self.journal, self.work):
+            if os.path.exists(path):
+                raise Mismatch(f"{name}: {path} is left after recover")
+        for word, content in allowed.items():
+            if after == content:
+                tally[word] += 1
+                return
+        lengths = ", ".join(f"{word} {len(content)}" for word, content in allowed.items())
+        raise Mismatch(f"{name}: the file is none of those allowed: {len(after)} bytes ({lengths})")
+
+    def edit(self, name, count, old, words, how):
+        self.lay(old)
+        printed = self.whole("set", words)[0]
+        if not printed.startswith(f"done changed {how} essence "):
+            raise Mismatch(f"{name}: prints {printed!r}")
+        new = read(self.file)
+        return new, self.runs(name, count, "set", words, old, None, {"old": old, "new": new})
+
+
+def all_runs(bench, count):
+    sound = random.randbytes(4_000_000)
+    description = ["Description=" + "x" * 256]
+    title = ["INAM=" + "x" * 256]
+    listed = chunk(b"LIST", b"INFO" + chunk(b"INAM", b"Hi\0"))
+    room = wave(FORMAT, listed, chunk(b"JUNK", bytes(1016)), chunk(b"data", sound))
+    bench.edit("in place, into JUNK", count, room, title, "in-place")
+    plain = wave(FORMAT, chunk(b"data", sound))
+    new, kept = bench.edit("in place, at the end", count, plain, title, "in-place")
+    bench.edit("rewrite", count, plain, description, "rewrite")
+    if kept is None:
+        print("recover of such a journal: skipped, no run left one over a file that isn't the new one")
+    else:
+        bench.runs("recover of such a journal", count, "recover", [], kept[0], kept[1], {"new": new})
+
+
+def main():
+    count = int(sys.argv[1]) if len(sys.argv) > 1 else 100
+    program = built()
+    if len(sys.argv) > 2:
+        os.makedirs(sys.argv[2], exist_ok=True)
+    folder = tempfile.mkdtemp(prefix=".bench.", dir=sys.argv[2] if len(sys.argv) > 2 else TOP)
+    try:
+        all_runs(Bench(program, folder), count)
+    except Mismatch as fault:
+        print(f"MISMATCH {fault}")
+        return 1
+    finally:
+        shutil.rmtree(folder)
+    print("each file is the old one or the new one, byte for byte, with no journal and no work file beside it")
+    return 0
+
+
+if __name__ == "__main__":
+    sys.exit(main())

@@ -1,0 +1,107 @@
+/* The plainest programs that do what `metaedit` does, for bench/speed.sh, and a clock that runs a command.
+     plain journal FILE AT TEXT      writes TEXT over FILE at AT: a journal file, fsync, rename, fsync of the folder, the write,
+                                     fsync, unlink
+     plain durable FILE AT TEXT      the same, and a last fsync of the folder, as the editor does it: the journal stays away
+     plain copy FILE NEW             copies FILE in blocks of 64 KiB, fsync, rename to NEW, fsync of the folder
+     plain run COMMAND..             runs the command; its seconds, the most memory it used in KiB, and its status to error
+   It reads no format and checks nothing; FILE lies in the working folder. */
+#define _GNU_SOURCE
+#include <fcntl.h>
+#include <stdint.h>
+#include <stdio.h>
+#include <stdlib.h>
+#include <string.h>
+#include <sys/resource.h>
+#include <sys/wait.h>
+#include <time.h>
+#include <unistd.h>
+
+static void must(int good, const char *what) {
+    if (!good) {
+        perror(what);
+        exit(1);
+    }
+}
+
+static void put(int file, const void *from, size_t length) {
+    must(write(file, from, length) == (ssize_t)length, "write");
+}
+
+static void sync_folder(void) {
+    int folder = open(".", O_RDONLY);
+    must(folder >= 0 && fsync(folder) == 0, "fsync of the folder");
+    close(folder);
+}
+
+static void journal(const char *name, uint64_t at, const char *text, int durable) {
+    uint32_t length = strlen(text);
+    int file = open("plain.tmp", O_WRONLY | O_CREAT | O_TRUNC, 0666);
+    must(file >= 0, "journal");
+    put(file, &at, sizeof at);
+    put(file, &length, sizeof length);
+    put(file, text, length);
+    must(fsync(file) == 0, "fsync");
+    close(file);
+    must(rename("plain.tmp", "plain.journal") == 0, "rename");
+    sync_folder();
+    file = open(name, O_RDWR);
+    must(file >= 0, name);
+    must(pwrite(file, text, length, at) == (ssize_t)length, "pwrite");
+    must(fsync(file) == 0, "fsync");
+    must(unlink("plain.journal") == 0, "unlink");
+    if (durable)
+        sync_folder();
+    close(file);
+}
+
+static void copy(const char *name, const char *new_name) {
+    static char block[65536];
+    int from = open(name, O_RDONLY);
+    int to = open("plain.tmp", O_WRONLY | O_CREAT | O_TRUNC, 0666);
+    must(from >= 0 && to >= 0, name);
+    for (;;) {
+        ssize_t length = read(from, block, sizeof block);
+        must(length >= 0, "read");
+        if (length == 0)
+            break;
+        put(to, block, length);
+    }
+    must(fsync(to) == 0, "fsync");
+    close(to);
+    must(rename("plain.tmp", new_name) == 0, "rename");
+    sync_folder();
+    close(from);
+}
+
+static int run(char **words) {
+    struct timespec begin, end;
+    struct rusage used;
+    int status;
+    clock_gettime(CLOCK_MONOTONIC, &begin);
+    pid_t child = fork();
+    must(child >= 0, "fork");
+    if (child == 0) {
+        execvp(words[0], words);
+        _exit(127);
+    }
+    must(wait4(child, &status, 0, &used) == child, "wait");
+    clock_gettime(CLOCK_MONOTONIC, &end);
+    double seconds = (end.tv_sec - begin.tv_sec) + (end.tv_nsec - begin.tv_nsec) / 1e9;
+    status = WIFEXITED(status) ? WEXITSTATUS(status) : 128 + WTERMSIG(status);
+    fprintf(stderr, "%.6f %ld %d\n", seconds, used.ru_maxrss, status);
+    return status;
+}
+
+int main(int count, char **words) {
+    if (count == 5 && strcmp(words[1], "journal") == 0)
+        journal(words[2], strtoull(words[3], NULL, 10), words[4], 0);
+    else if (count == 5 && strcmp(words[1], "durable") == 0)
+        journal(words[2], strtoull(words[3], NULL, 10), words[4], 1);
+    else if (count == 4 && strcmp(words[1], "copy") == 0)
+        copy(words[2], words[3]);
+    else if (count > 2 && strcmp(words[1], "run") == 0)
+        return run(words + 2);
+    else
+        return 2;
+    return 0;
+}
