@@ -100,7 +100,8 @@ class Bench:
             write(self.journal, journal)
 
     def runs(self, name, count, command, words, main, journal, allowed):
-        """Kills `count` runs; `allowed` names the files that may stand after `recover`. The first state where a journal has work left is given."""
+        """Kills `count` runs; `allowed` names the files that may stand after `recover`.
+        The first state where a journal has work left is given back."""
         durations = []
         for _ in range(5):
             self.lay(main, journal)
