@@ -1,4 +1,4 @@
-// Edits the metadata of a sound file: `metaedit set FILE INAM=TITLE`.
+// Edits the metadata of WAVE and RF64 files: `metaedit set FILE NAME=VALUE..`.
 #![tactic(auto)]
 
 use me_bytes::NoMemory;
