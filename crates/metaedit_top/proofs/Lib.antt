@@ -5,3 +5,4 @@ pub mod Ran
 pub mod Tops
 pub mod Changes
 pub mod Sets
+pub mod Tells

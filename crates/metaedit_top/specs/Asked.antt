@@ -69,16 +69,19 @@ pub record AcceptsEdit (rules : RuleSet) (e : List EditItem) (o : List ℕ) : Ty
 abbrev pub reads_file : Command → Bool
 reads_file command.Recover = false
 reads_file command.Set = true
+reads_file command.Validate = true
 
 -- whether it edits the file
 abbrev pub edits_file : Command → Bool
 edits_file command.Set = true
 edits_file command.Recover = false
+edits_file command.Validate = false
 
 -- nothing stands against a command on a file
 abbrev pub AcceptsBy : Command → RuleSet → List EditItem → List ℕ → Type 0
 AcceptsBy command.Set rules e o = AcceptsEdit rules e o
 AcceptsBy command.Recover rules e o = ⊤
+AcceptsBy command.Validate rules e o = why_in o ≡ None
 
 -- nothing stands against a request on a file
 abbrev pub Accepts : Request → List ℕ → Type 0

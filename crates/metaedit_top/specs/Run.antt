@@ -1,5 +1,5 @@
 -- How a run ends: what it leaves of the file and of what a crash may leave, what it tells, and why it stops.
-use Rattle.std.specs.Prelude.{◌≡◌, ◌⊎◌, ℕ, ◌+◌, ◌≤◌, Bool, true, false, IsTrue, is_some, List, codes, Option, Some, None, Ok, ⊤}
+use Rattle.std.specs.Prelude.{◌≡◌, ◌⊎◌, ℕ, ◌+◌, ◌≤◌, Bool, true, false, IsTrue, is_some, List, [], length, codes, Option, Some, None, Ok, ⊤}
 use Rattle.me_bytes.specs.Bytes.{IsBytes}
 use Rattle.me_disk.specs.Causes.{Rose}
 use Rattle.me_disk.specs.Disk.{Disk, Image, Leaves, Only, read_as, bytes_of}
@@ -10,7 +10,9 @@ use Rattle.recovery.specs.Recovered.{IsBroken, bytes_to_redo}
 use Rattle.recovery.specs.Redo.{SettlesAlike}
 use Rattle.recovery.specs.declared.whole.Recovered.{Recovered}
 use Rattle.recovery.specs.declared.whole.Recovered.TheVariants.{Nothing, Redone}
-use Rattle.field_model.specs.Broken.{broken}
+use Rattle.field_model.specs.Broken.{broken, findings}
+use Rattle.part_tree.specs.declared.field.Broken.{Broken}
+use Rattle.part_tree.specs.declared.field.RuleSet.{RuleSet}
 use Rattle.carrier_model.specs.Large.{Size}
 use Rattle.wave_model.specs.Fields.{fields}
 use Rattle.wave_model.specs.Large.{too_large}
@@ -19,6 +21,7 @@ use Rattle.metaedit_top.specs.declared.outcome.Outcome.{Outcome}
 use Rattle.metaedit_top.specs.declared.outcome.Outcome.TheVariants as outcome
 use Rattle.me_report.specs.declared.line.Summary.{Summary}
 use Rattle.me_report.specs.Done.{done_line}
+use Rattle.me_report.specs.Findings.{findings_text}
 use Rattle.metaedit_top.specs.declared.outcome.Stop.{Stop}
 use Rattle.metaedit_top.specs.declared.outcome.Stop.TheVariants as stop
 use Rattle.metaedit_top.specs.declared.words.Command.{Command}
@@ -34,15 +37,24 @@ use Rattle.metaedit_top.specs.Asked.{payload, changes, fits, reads_file, edits_f
 abbrev pub no_edit : Summary
 no_edit = record { changed = false; in_place = false; payload = 0; findings = 0 }
 
+-- the summary of a run that only reads a file whose sound has so many bytes, and that finds so much
+abbrev pub look_summary : ℕ → ℕ → Summary
+look_summary n k = record { changed = false; in_place = false; payload = n; findings = k }
+
+-- what the fields of a file break as they stand
+abbrev pub findings_in : RuleSet → List ℕ → List Broken
+findings_in rules o = findings (kind_of o) (fields o) [] rules
+
 -- whether a journal was redone
 abbrev pub was_redone : Recovered → Bool
 was_redone Nothing = false
 was_redone (Redone len) = true
 
--- the summary of an edit of a file
+-- the summary of a command on a file
 abbrev pub summary_by : Command → Request → List ℕ → Summary
 summary_by command.Set q o = record { changed = changes o q.edit; in_place = fits o q.edit; payload = payload o; findings = 0 }
 summary_by command.Recover q o = no_edit
+summary_by command.Validate q o = look_summary (payload o) (length (findings_in q.rules o))
 
 -- the summary of a run
 abbrev pub summary : Request → List ℕ → Summary
@@ -57,6 +69,7 @@ recovered_line false = codes "recovered nothing\n"
 abbrev pub report_by : Command → Request → List ℕ → Bool → List ℕ
 report_by command.Set q o stood = done_line (summary q o)
 report_by command.Recover q o stood = recovered_line stood
+report_by command.Validate q o stood = findings_text (findings_in q.rules o)
 
 -- the report of a run on a file, beside which a journal stood or not
 abbrev pub report : Request → List ℕ → Bool → List ℕ

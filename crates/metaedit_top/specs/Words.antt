@@ -31,7 +31,8 @@ abbrev pub command_of : Text → Option Command
 command_of word =
     if bytes_eq word (codes "set") then Some command.Set
     else (if bytes_eq word (codes "recover") then Some command.Recover
-    else None)
+    else (if bytes_eq word (codes "validate") then Some command.Validate
+    else None))
 
 -- a word that begins with `-`
 abbrev pub is_dashed : Text → Bool
@@ -55,11 +56,13 @@ rules_of word =
 abbrev pub usual_rules : Command → RuleSet
 usual_rules command.Set = Base
 usual_rules command.Recover = Base
+usual_rules command.Validate = Fadgi
 
 -- whether a command takes the option `--rules`
 abbrev pub takes_rules : Command → Bool
 takes_rules command.Set = true
 takes_rules command.Recover = false
+takes_rules command.Validate = true
 
 -- the rules, and the words behind the options
 pub record Options : Type 0 where
@@ -96,6 +99,7 @@ options command words = if takes_rules command then with_rules (usual_rules comm
 abbrev pub fits : Command → List Text → Bool
 fits command.Set items = not (length items == 0) && not (list_any is_dashed items)
 fits command.Recover items = length items == 0
+fits command.Validate items = length items == 0
 
 -- the file, the rules, and the words of the items
 pub record Parts : Type 0 where

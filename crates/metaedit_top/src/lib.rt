@@ -1,5 +1,6 @@
 //! The editor of the metadata of WAVE and RF64 files: one call does all that the program does.
-//! It reads the words, settles the file after a crash, reads it, edits it in place or writes it anew, and prints one report.
+//! It reads the words, settles the file after a crash, reads it, tells of it or edits it in place or by a new file, and prints
+//! one report.
 //! It knows no device.
 #![tactic(auto)]
 
@@ -8,6 +9,7 @@ mod file;
 mod outcome;
 mod run;
 mod set;
+mod tell;
 mod text;
 mod top;
 mod word;

@@ -9,6 +9,7 @@ ghost use Rattle.metaedit_top.specs.Stage.{ActLeaves, ActStops, HasActed, IsSett
 
 use crate::outcome::{Finished, Stop};
 use crate::set::set;
+use crate::tell::validate;
 use crate::words::{Command, Request};
 use me_disk::Depot;
 use me_report::Summary;
@@ -74,6 +75,7 @@ fn act<D: Depot>(
             Err(_) => Err(Stop::Memory),
             Ok(finished) => Ok(finished),
         },
+        Command::Validate => validate(alloc, depot, request),
     }
 }
 

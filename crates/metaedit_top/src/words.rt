@@ -18,6 +18,8 @@ pub enum Command {
     Set,
     /// Settles the file after a crash, and does nothing else.
     Recover,
+    /// Tells which of the rules the fields break as they stand.
+    Validate,
 }
 
 /// What the words ask for. The edit has no items where the command is none that edits.
@@ -59,6 +61,8 @@ fn command_of(word: &[u8]) -> Option<Command>
         Some(Command::Set)
     } else if word == b"recover".as_slice() {
         Some(Command::Recover)
+    } else if word == b"validate".as_slice() {
+        Some(Command::Validate)
     } else {
         None
     }
@@ -87,6 +91,7 @@ fn usual_rules(command: Command) -> RuleSet
 {
     match command {
         Command::Set | Command::Recover => RuleSet::Base,
+        Command::Validate => RuleSet::Fadgi,
     }
 }
 
@@ -94,7 +99,7 @@ fn usual_rules(command: Command) -> RuleSet
 fn takes_rules(command: Command) -> bool
     ensures { result ≡ spec.takes_rules command }
 {
-    matches!(command, Command::Set)
+    matches!(command, Command::Set | Command::Validate)
 }
 
 // Whether a word begins with `-`.

@@ -1,0 +1,65 @@
+// What is told of a file that stands alone, and that is only read.
+ghost use Rattle.std.specs.Prelude.{◌≡◌, Bool, List, [], ℕ, length, IfOk, IfErr, OnOk};
+ghost use Rattle.me_bytes.specs.Bytes.{IsBytes};
+ghost use Rattle.me_disk.specs.Disk.{Only, Leaves, read_as};
+ghost use Rattle.me_report.specs.Findings.{findings_text};
+ghost use Rattle.field_model.specs.Broken.{findings};
+ghost use Rattle.part_tree.specs.Fields.{values};
+ghost use Rattle.wave_file.specs.Map.{IsSound};
+ghost use Rattle.metaedit_top.specs.Run.{MayLeave, look_summary};
+ghost use Rattle.metaedit_top.specs.Stage.{ActLeaves, ActStops, HasActed, IsSettled, OnHeld};
+
+use crate::file::read_file;
+use crate::outcome::{Finished, Stop};
+use crate::words::{Command, Request};
+use fadgi_rules::all_broken;
+use me_disk::Depot;
+use me_report::{Summary, validate_text};
+use part_tree::{NoMemory, ReadFault, RuleSet};
+use std::alloc::Global;
+use wave_file::WaveMap;
+
+// What is told of the rules that fields break as they stand.
+fn tell_findings(alloc: Global, map: &WaveMap, rules: RuleSet) -> Result<Finished, NoMemory>
+    requires { IsSound map.now }
+    ensures summary { IfOk result (λ f. f.summary ≡ look_summary map.now.sound.len (length (findings map.now.kind (values map.now.fields) [] rules))) }
+    ensures text { IfOk result (λ f. f.text ≡ findings_text (findings map.now.kind (values map.now.fields) [] rules)) }
+{
+    let broken = all_broken(alloc, map.kind, &map.fields, rules)?;
+    let text = validate_text(alloc, broken.as_slice())?;
+    Ok(Finished {
+        summary: Summary {
+            changed: false,
+            in_place: false,
+            payload: map.sound.len,
+            findings: broken.len() as u32,
+        },
+        text,
+    })
+}
+
+/// Tells which of the rules the fields of a file break as they stand, where the file is supported.
+pub(crate) fn validate<D: Depot>(
+    alloc: Global,
+    depot: &mut D,
+    request: &Request,
+) -> Result<Finished, Stop>
+    requires command { request.now.command ≡ Command.Validate }
+    requires settled { IsSettled (D.disk depot.old) }
+    ensures acts { (stood : Bool) → OnHeld (D.disk depot.old) (λ o. IsBytes o → IfOk result (HasActed request.now o stood (D.disk depot.old) (D.disk depot.new))) }
+    ensures stops { IfErr result (ActStops request.now (D.disk depot.old) (D.disk depot.new)) }
+    ensures leaves { IfErr result (ActLeaves request.now (D.disk depot.old) (D.disk depot.new)) }
+    ensures crash { Leaves (MayLeave request.now (D.disk depot.old)) (D.disk depot.old) (D.disk depot.new) }
+    ensures again { OnOk result (Only (read_as (D.disk depot.new).slots) (D.disk depot.new)) }
+{
+    let map = match read_file(alloc, depot) {
+        Err(ReadFault::Why(why)) => return Err(Stop::NotSupported(why)),
+        Err(ReadFault::Depot) => return Err(Stop::Depot),
+        Err(ReadFault::Memory) => return Err(Stop::Memory),
+        Ok(map) => map,
+    };
+    match tell_findings(alloc, &map, request.rules) {
+        Err(_) => Err(Stop::Memory),
+        Ok(finished) => Ok(finished),
+    }
+}
