@@ -1,13 +1,17 @@
 -- What is told of a file that is only read.
-use Rattle.std.proofs.Common.{◌≡◌, ℕ, suc, ◌+◌, ◌≤◌, List, [], ◌∷◌, ◌++◌, length, map, filter, Bool, true, false, Some, None, Err, refl, sym, ap, ◌∙◌, subst, arith, cond, length-append}
+use Rattle.std.proofs.Common.{◌≡◌, ℕ, suc, ◌+◌, ◌≤◌, List, [], ◌∷◌, ◌++◌, length, map, filter, take, drop, append-nil, Bool, true, false, Some, None, Err, refl, sym, ap, ◌∙◌, subst, arith, cond, length-append}
+use Rattle.std.specs.List.{flat_map}
+use Rattle.md5.specs.Md5.{md5}
 use Rattle.me_bytes.specs.Bytes.{IsBytes}
 use Rattle.me_disk.specs.Disk.{Disk, bytes_of}
-use Rattle.me_disk.specs.Holds.{Holds}
+use Rattle.me_disk.specs.Causes.{Rose}
+use Rattle.me_disk.specs.Holds.{Holds, Inside}
 use Rattle.me_disk.specs.Steps.{ReadsOnly}
 use Rattle.part_tree.specs.declared.field.Broken.{Broken}
 use Rattle.part_tree.specs.declared.field.FieldName.{FieldName}
 use Rattle.part_tree.specs.declared.field.RuleSet.{RuleSet}
 use Rattle.part_tree.specs.declared.names.Kind.{Kind}
+use Rattle.part_tree.specs.declared.names.Span.{Span}
 use Rattle.part_tree.specs.declared.names.Kind.TheVariants.{Wave, Rf64, Avi, Mov}
 use Rattle.part_tree.specs.declared.why.ReadFault.{ReadFault}
 use Rattle.part_tree.specs.declared.why.ReadFault.TheVariants as read
@@ -18,21 +22,28 @@ use Rattle.field_model.specs.Broken.{Test, on_item, on_fields, Rule, rules, choo
 use Rattle.field_model.specs.Fields.{FieldMap}
 use Rattle.field_model.specs.Update.{update}
 use Rattle.me_report.specs.declared.line.Summary.{Summary}
+use Rattle.me_report.specs.Checksums.{checksum_text, finding_count}
 use Rattle.me_report.specs.Findings.{findings_text}
-use Rattle.wave_file.specs.Map.{IsMapOf}
+use Rattle.container_model.specs.Chunk.{Chunk, spell}
+use Rattle.container_model.specs.Walk.{along}
+use Rattle.wave_file.specs.Map.{IsMapOf, IsSound, sound_at}
 use Rattle.wave_file.specs.declared.map.WaveMap.{WaveMap}
 use Rattle.wave_model.specs.Fields.{fields}
-use Rattle.wave_model.specs.New.{new_file}
-use Rattle.wave_model.specs.Wave.{kind_of}
+use Rattle.wave_model.specs.Map.{body_span, sound_from, sound as sound_span}
+use Rattle.wave_model.specs.New.{new_file, children_at}
+use Rattle.wave_model.specs.Wave.{kind_of, wave_of}
+use Rattle.wave_model.specs.Why.{is_data}
+use Rattle.wave_model.proofs.Map.{sound_is}
+use Rattle.wave_model.proofs.Why.{why_supported}
 use Rattle.metaedit_top.specs.declared.outcome.Finished.{Finished}
 use Rattle.metaedit_top.specs.declared.words.Command.{Command}
 use Rattle.metaedit_top.specs.declared.words.Command.TheVariants as command
 use Rattle.metaedit_top.specs.declared.words.Request.{Request}
-use Rattle.metaedit_top.specs.Asked.{AcceptsBy, Accepts, edit_bytes, edits_file, new_of, payload, reads_file, run_bytes, why_in}
+use Rattle.metaedit_top.specs.Asked.{AcceptsBy, Accepts, edit_bytes, edits_file, new_of, payload, reads_file, run_bytes, sound, why_in}
 use Rattle.metaedit_top.specs.Run.{findings_in, look_summary, summary, summary_by, report, report_by}
 use Rattle.metaedit_top.specs.Stage.{HasActed, IsSettled, OnHeld, ReadsFile}
 use Rattle.metaedit_top.proofs.Acted.{alone_on}
-use Rattle.metaedit_top.proofs.Sets.{same_fields, payload_is}
+use Rattle.metaedit_top.proofs.Sets.{same_fields, payload_is, holds_back}
 
 -- ---- how much the rules can find
 
@@ -133,3 +144,49 @@ module _ (q : Request) (is : q.command ≡ command.Validate) where
       (summary_is ∙ ap (λ (n : ℕ). look_summary n (length (findings m.kind (values m.fields) [] q.rules))) (payload_is o m mapped)
       ∙ ap (λ (bs : List Broken). look_summary (payload o) (length bs)) found ∙ sym (ap (λ (c : Command). summary_by c q o) is))
       (text_is ∙ ap findings_text found ∙ sym (ap (λ (c : Command). report_by c q o stood) is))
+
+-- ---- the checksums
+
+first_one : {X : Type 0} {x y : X} {xs : List X} → x ∷ [] ≡ y ∷ xs → x ≡ y
+first_one {X} {x} e = ap first e
+  where
+    first : List X → X
+    first [] = x
+    first (z ∷ zs) = z
+
+-- the one sound that is told is the first
+first_sound : (at : ℕ) (cs : List Chunk) (s : Span) → s ∷ [] ≡ along sound_at at cs → s ≡ sound_from at cs
+first_sound at [] s e = absurd cc
+first_sound at (c ∷ cs) s e = go (is_data c) e (first_sound (at + length (spell c)) cs s)
+  where
+    go : (t : Bool) → s ∷ [] ≡ cond t (record { at = at + 8; len = length c.body } ∷ []) [] ++ along sound_at (at + length (spell c)) cs
+        → (s ∷ [] ≡ along sound_at (at + length (spell c)) cs → s ≡ sound_from (at + length (spell c)) cs) → s ≡ cond t (body_span at c) (sound_from (at + length (spell c)) cs)
+    go true e more = first_one e
+    go false e more = more e
+
+pub sound_there : (o : List ℕ) (m : WaveMap) → IsBytes o → IsMapOf o m → take m.sound.len (drop m.sound.at o) ≡ sound o
+sound_there o m bytes is =
+    ap (λ (s : Span). take s.len (drop s.at o)) (first_sound (children_at (wave_of o)) (wave_of o).children m.sound is.sound)
+    ∙ sym (append-nil (take (sound_span o).len (drop (sound_span o).at o)))
+    ∙ sym (ap (λ (bs : List (List ℕ)). flat_map (λ (b : List ℕ). b) bs) (sound_is o bytes (why_supported o is.supported)))
+
+pub sound_inside : (a b : Disk) (m : WaveMap) → ReadsOnly a b → ((o : List ℕ) → Holds a o → IsMapOf o m × (why_in o ≡ None)) → IsSound m → Inside (m.sound.at + m.sound.len) b
+sound_inside a b m reads file good = λ o h. let len = (file o (holds_back a b o reads h)).0.len in omega (arith, len, good.sound_inside, good.form_inside)
+
+module _ (q : Request) (is : q.command ≡ command.Md5) where
+  pub md5_reads : reads_file q.command ≡ true
+  md5_reads = ap reads_file is
+
+  pub md5_acts : (a b : Disk) (m : WaveMap) (digest : List ℕ) (f : Finished) → ReadsOnly a b → ((o : List ℕ) → Holds a o → IsMapOf o m × (why_in o ≡ None)) → IsSettled a
+      → ((o : List ℕ) → Holds a o → digest ≡ md5 (take m.sound.len (drop m.sound.at o)))
+      → f.summary ≡ look_summary m.sound.len (finding_count (values m.fields) (Some digest)) → f.text ≡ checksum_text (values m.fields) (Some digest)
+      → (stood : Bool) (o : List ℕ) → Holds a o → IsBytes o → HasActed q o stood a b f
+  md5_acts a b m digest f reads file settled computed summary_is text_is stood o h bytes =
+      let mapped = (file o h).0 in
+      let same : digest ≡ md5 (sound o) = computed o h ∙ ap md5 (sound_there o m bytes mapped) in
+      look_acts q (ap edits_file is) a b reads stood o f settled h (subst (λ (c : Command). AcceptsBy c q.rules q.edit o) (sym is) (file o h).1)
+      (summary_is ∙ ap (λ (n : ℕ). look_summary n (finding_count (values m.fields) (Some digest))) (payload_is o m mapped)
+      ∙ ap (λ (g : FieldMap). look_summary (payload o) (finding_count g (Some digest))) (same_fields o m mapped)
+      ∙ ap (λ (d : List ℕ). look_summary (payload o) (finding_count (fields o) (Some d))) same ∙ sym (ap (λ (c : Command). summary_by c q o) is))
+      (text_is ∙ ap (λ (g : FieldMap). checksum_text g (Some digest)) (same_fields o m mapped)
+      ∙ ap (λ (d : List ℕ). checksum_text (fields o) (Some d)) same ∙ sym (ap (λ (c : Command). report_by c q o stood) is))

@@ -87,6 +87,7 @@ module _ (words : List (List ℕ)) (q r : Request) (a b : Disk) (o : List ℕ) (
       go : (c : Command) → AcceptsBy c q.rules q.edit o → r.command ≡ c → reads_file r.command ≡ true → why_in o ≡ None
       go command.Set h e reads = h.supported
       go command.Validate h e reads = h
+      go command.Md5 h e reads = h
       go command.Recover h e reads = absurd (not_true (sym (ap reads_file e) ∙ reads))
         where
           not_true : false ≡ true → ⊥
@@ -98,6 +99,10 @@ module _ (words : List (List ℕ)) (q r : Request) (a b : Disk) (o : List ℕ) (
       go : (c : Command) → AcceptsBy c q.rules q.edit o → r.command ≡ c → edits_file r.command ≡ true → AcceptsEdit r.rules r.edit o
       go command.Set h e edits = subst (λ (x : Request). AcceptsEdit x.rules x.edit o) (sym same) h
       go command.Validate h e edits = absurd (not_true (sym (ap edits_file e) ∙ edits))
+        where
+          not_true : false ≡ true → ⊥
+          not_true x = absurd cc
+      go command.Md5 h e edits = absurd (not_true (sym (ap edits_file e) ∙ edits))
         where
           not_true : false ≡ true → ⊥
           not_true x = absurd cc

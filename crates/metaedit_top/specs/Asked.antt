@@ -34,9 +34,13 @@ is_later _ = false
 abbrev pub why_in : List ℕ → Option Why
 why_in o = if is_later (kind (take 12 o)) then Some NotBuilt else why o
 
--- the length of its sound in bytes: the body of `data`
+-- its sound: the body of `data`
+abbrev pub sound : List ℕ → List ℕ
+sound o = flat_map (λ body. body) (sounds (wave_of o).children)
+
+-- the length of its sound in bytes
 abbrev pub payload : List ℕ → ℕ
-payload o = length (flat_map (λ sound. sound) (sounds (wave_of o).children))
+payload o = length (sound o)
 
 -- ---- an edit of it
 
@@ -70,18 +74,21 @@ abbrev pub reads_file : Command → Bool
 reads_file command.Recover = false
 reads_file command.Set = true
 reads_file command.Validate = true
+reads_file command.Md5 = true
 
 -- whether it edits the file
 abbrev pub edits_file : Command → Bool
 edits_file command.Set = true
 edits_file command.Recover = false
 edits_file command.Validate = false
+edits_file command.Md5 = false
 
 -- nothing stands against a command on a file
 abbrev pub AcceptsBy : Command → RuleSet → List EditItem → List ℕ → Type 0
 AcceptsBy command.Set rules e o = AcceptsEdit rules e o
 AcceptsBy command.Recover rules e o = ⊤
 AcceptsBy command.Validate rules e o = why_in o ≡ None
+AcceptsBy command.Md5 rules e o = why_in o ≡ None
 
 -- nothing stands against a request on a file
 abbrev pub Accepts : Request → List ℕ → Type 0

@@ -10,6 +10,7 @@ use Rattle.recovery.specs.Recovered.{IsBroken, bytes_to_redo}
 use Rattle.recovery.specs.Redo.{SettlesAlike}
 use Rattle.recovery.specs.declared.whole.Recovered.{Recovered}
 use Rattle.recovery.specs.declared.whole.Recovered.TheVariants.{Nothing, Redone}
+use Rattle.md5.specs.Md5.{md5}
 use Rattle.field_model.specs.Broken.{broken, findings}
 use Rattle.part_tree.specs.declared.field.Broken.{Broken}
 use Rattle.part_tree.specs.declared.field.RuleSet.{RuleSet}
@@ -20,6 +21,7 @@ use Rattle.wave_model.specs.Wave.{kind_of}
 use Rattle.metaedit_top.specs.declared.outcome.Outcome.{Outcome}
 use Rattle.metaedit_top.specs.declared.outcome.Outcome.TheVariants as outcome
 use Rattle.me_report.specs.declared.line.Summary.{Summary}
+use Rattle.me_report.specs.Checksums.{checksum_text, finding_count}
 use Rattle.me_report.specs.Done.{done_line}
 use Rattle.me_report.specs.Findings.{findings_text}
 use Rattle.metaedit_top.specs.declared.outcome.Stop.{Stop}
@@ -29,7 +31,7 @@ use Rattle.metaedit_top.specs.declared.words.Command.TheVariants as command
 use Rattle.metaedit_top.specs.declared.words.Request.{Request}
 use Rattle.metaedit_top.specs.declared.outcome.Finished.{Finished}
 use Rattle.metaedit_top.specs.Words.{request}
-use Rattle.metaedit_top.specs.Asked.{payload, changes, fits, reads_file, edits_file, Accepts, new_of, IsEdited, run_bytes, why_in}
+use Rattle.metaedit_top.specs.Asked.{payload, sound, changes, fits, reads_file, edits_file, Accepts, new_of, IsEdited, run_bytes, why_in}
 
 -- ---- what is told of a run
 
@@ -55,6 +57,7 @@ abbrev pub summary_by : Command → Request → List ℕ → Summary
 summary_by command.Set q o = record { changed = changes o q.edit; in_place = fits o q.edit; payload = payload o; findings = 0 }
 summary_by command.Recover q o = no_edit
 summary_by command.Validate q o = look_summary (payload o) (length (findings_in q.rules o))
+summary_by command.Md5 q o = look_summary (payload o) (finding_count (fields o) (Some (md5 (sound o))))
 
 -- the summary of a run
 abbrev pub summary : Request → List ℕ → Summary
@@ -70,6 +73,7 @@ abbrev pub report_by : Command → Request → List ℕ → Bool → List ℕ
 report_by command.Set q o stood = done_line (summary q o)
 report_by command.Recover q o stood = recovered_line stood
 report_by command.Validate q o stood = findings_text (findings_in q.rules o)
+report_by command.Md5 q o stood = checksum_text (fields o) (Some (md5 (sound o)))
 
 -- the report of a run on a file, beside which a journal stood or not
 abbrev pub report : Request → List ℕ → Bool → List ℕ

@@ -32,7 +32,8 @@ command_of word =
     if bytes_eq word (codes "set") then Some command.Set
     else (if bytes_eq word (codes "recover") then Some command.Recover
     else (if bytes_eq word (codes "validate") then Some command.Validate
-    else None))
+    else (if bytes_eq word (codes "md5") then Some command.Md5
+    else None)))
 
 -- a word that begins with `-`
 abbrev pub is_dashed : Text → Bool
@@ -57,12 +58,14 @@ abbrev pub usual_rules : Command → RuleSet
 usual_rules command.Set = Base
 usual_rules command.Recover = Base
 usual_rules command.Validate = Fadgi
+usual_rules command.Md5 = Base
 
 -- whether a command takes the option `--rules`
 abbrev pub takes_rules : Command → Bool
 takes_rules command.Set = true
 takes_rules command.Recover = false
 takes_rules command.Validate = true
+takes_rules command.Md5 = false
 
 -- the rules, and the words behind the options
 pub record Options : Type 0 where
@@ -100,6 +103,7 @@ abbrev pub fits : Command → List Text → Bool
 fits command.Set items = not (length items == 0) && not (list_any is_dashed items)
 fits command.Recover items = length items == 0
 fits command.Validate items = length items == 0
+fits command.Md5 items = length items == 0
 
 -- the file, the rules, and the words of the items
 pub record Parts : Type 0 where

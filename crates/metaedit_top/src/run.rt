@@ -9,7 +9,7 @@ ghost use Rattle.metaedit_top.specs.Stage.{ActLeaves, ActStops, HasActed, IsSett
 
 use crate::outcome::{Finished, Stop};
 use crate::set::set;
-use crate::tell::validate;
+use crate::tell::{md5, validate};
 use crate::words::{Command, Request};
 use me_disk::Depot;
 use me_report::Summary;
@@ -76,6 +76,7 @@ fn act<D: Depot>(
             Ok(finished) => Ok(finished),
         },
         Command::Validate => validate(alloc, depot, request),
+        Command::Md5 => md5(alloc, depot, request),
     }
 }
 

@@ -1,7 +1,8 @@
 // What is told of a file that stands alone, and that is only read.
-ghost use Rattle.std.specs.Prelude.{◌≡◌, Bool, List, [], ℕ, length, IfOk, IfErr, OnOk};
+ghost use Rattle.std.specs.Prelude.{◌≡◌, Bool, List, [], ℕ, length, Some, IfOk, IfErr, OnOk};
 ghost use Rattle.me_bytes.specs.Bytes.{IsBytes};
 ghost use Rattle.me_disk.specs.Disk.{Only, Leaves, read_as};
+ghost use Rattle.me_report.specs.Checksums.{checksum_text, finding_count};
 ghost use Rattle.me_report.specs.Findings.{findings_text};
 ghost use Rattle.field_model.specs.Broken.{findings};
 ghost use Rattle.part_tree.specs.Fields.{values};
@@ -14,7 +15,7 @@ use crate::outcome::{Finished, Stop};
 use crate::words::{Command, Request};
 use fadgi_rules::all_broken;
 use me_disk::Depot;
-use me_report::{Summary, validate_text};
+use me_report::{Summary, md5_findings, md5_text, sound_md5, validate_text};
 use part_tree::{NoMemory, ReadFault, RuleSet};
 use std::alloc::Global;
 use wave_file::WaveMap;
@@ -59,6 +60,53 @@ pub(crate) fn validate<D: Depot>(
         Ok(map) => map,
     };
     match tell_findings(alloc, &map, request.rules) {
+        Err(_) => Err(Stop::Memory),
+        Ok(finished) => Ok(finished),
+    }
+}
+
+// What is told of the checksums of a sound, of which this is the computed one.
+fn tell_checksums(alloc: Global, map: &WaveMap, digest: [u8; 16]) -> Result<Finished, NoMemory>
+    ensures summary { IfOk result (λ f. f.summary ≡ look_summary map.now.sound.len (finding_count (values map.now.fields) (Some digest))) }
+    ensures text { IfOk result (λ f. f.text ≡ checksum_text (values map.now.fields) (Some digest)) }
+{
+    let text = md5_text(alloc, &map.fields, Some(digest))?;
+    Ok(Finished {
+        summary: Summary {
+            changed: false,
+            in_place: false,
+            payload: map.sound.len,
+            findings: md5_findings(&map.fields, Some(digest)),
+        },
+        text,
+    })
+}
+
+/// Tells the checksums of a file's sound: those that it stores, and the computed one, where the file is supported.
+pub(crate) fn md5<D: Depot>(
+    alloc: Global,
+    depot: &mut D,
+    request: &Request,
+) -> Result<Finished, Stop>
+    requires command { request.now.command ≡ Command.Md5 }
+    requires settled { IsSettled (D.disk depot.old) }
+    ensures acts { (stood : Bool) → OnHeld (D.disk depot.old) (λ o. IsBytes o → IfOk result (HasActed request.now o stood (D.disk depot.old) (D.disk depot.new))) }
+    ensures stops { IfErr result (ActStops request.now (D.disk depot.old) (D.disk depot.new)) }
+    ensures leaves { IfErr result (ActLeaves request.now (D.disk depot.old) (D.disk depot.new)) }
+    ensures crash { Leaves (MayLeave request.now (D.disk depot.old)) (D.disk depot.old) (D.disk depot.new) }
+    ensures again { OnOk result (Only (read_as (D.disk depot.new).slots) (D.disk depot.new)) }
+{
+    let map = match read_file(alloc, depot) {
+        Err(ReadFault::Why(why)) => return Err(Stop::NotSupported(why)),
+        Err(ReadFault::Depot) => return Err(Stop::Depot),
+        Err(ReadFault::Memory) => return Err(Stop::Memory),
+        Ok(map) => map,
+    };
+    let digest = match sound_md5(depot, map.sound) {
+        Err(_) => return Err(Stop::Depot),
+        Ok(digest) => digest,
+    };
+    match tell_checksums(alloc, &map, digest) {
         Err(_) => Err(Stop::Memory),
         Ok(finished) => Ok(finished),
     }

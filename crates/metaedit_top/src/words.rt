@@ -20,6 +20,8 @@ pub enum Command {
     Recover,
     /// Tells which of the rules the fields break as they stand.
     Validate,
+    /// Tells the checksums of the sound: those that the file stores, and the computed one.
+    Md5,
 }
 
 /// What the words ask for. The edit has no items where the command is none that edits.
@@ -63,6 +65,8 @@ fn command_of(word: &[u8]) -> Option<Command>
         Some(Command::Recover)
     } else if word == b"validate".as_slice() {
         Some(Command::Validate)
+    } else if word == b"md5".as_slice() {
+        Some(Command::Md5)
     } else {
         None
     }
@@ -90,7 +94,7 @@ fn usual_rules(command: Command) -> RuleSet
     ensures { result ≡ spec.usual_rules command }
 {
     match command {
-        Command::Set | Command::Recover => RuleSet::Base,
+        Command::Set | Command::Recover | Command::Md5 => RuleSet::Base,
         Command::Validate => RuleSet::Fadgi,
     }
 }
