@@ -5,4 +5,5 @@ pub mod Ran
 pub mod Tops
 pub mod Changes
 pub mod Sets
+pub mod FieldOrder
 pub mod Tells

@@ -1,10 +1,10 @@
 -- What is told of a file that is only read.
 use Rattle.std.proofs.Common.{◌≡◌, ℕ, suc, ◌+◌, ◌≤◌, List, [], ◌∷◌, ◌++◌, length, map, filter, take, drop, append-nil, Bool, true, false, Some, None, Err, refl, sym, ap, ◌∙◌, subst, arith, cond, length-append}
+use Rattle.std.specs.Prelude.{codes}
 use Rattle.std.specs.List.{flat_map}
 use Rattle.md5.specs.Md5.{md5}
 use Rattle.me_bytes.specs.Bytes.{IsBytes}
 use Rattle.me_disk.specs.Disk.{Disk, bytes_of}
-use Rattle.me_disk.specs.Causes.{Rose}
 use Rattle.me_disk.specs.Holds.{Holds, Inside}
 use Rattle.me_disk.specs.Steps.{ReadsOnly}
 use Rattle.part_tree.specs.declared.field.Broken.{Broken}
@@ -21,7 +21,6 @@ use Rattle.edit_journal.specs.Settled.{StandsAlone}
 use Rattle.field_model.specs.Broken.{Test, on_item, on_fields, Rule, rules, chooses, failing, findings_from, findings}
 use Rattle.field_model.specs.Fields.{FieldMap}
 use Rattle.field_model.specs.Update.{update}
-use Rattle.me_report.specs.declared.line.Summary.{Summary}
 use Rattle.me_report.specs.Checksums.{checksum_text, finding_count}
 use Rattle.me_report.specs.Findings.{findings_text}
 use Rattle.container_model.specs.Chunk.{Chunk, spell}
@@ -40,10 +39,16 @@ use Rattle.metaedit_top.specs.declared.words.Command.{Command}
 use Rattle.metaedit_top.specs.declared.words.Command.TheVariants as command
 use Rattle.metaedit_top.specs.declared.words.Request.{Request}
 use Rattle.metaedit_top.specs.Asked.{AcceptsBy, Accepts, edit_bytes, edits_file, new_of, payload, reads_file, run_bytes, sound, why_in}
-use Rattle.metaedit_top.specs.Run.{findings_in, look_summary, summary, summary_by, report, report_by}
+use Rattle.metaedit_top.specs.Run.{findings_in, look_summary, shown_text, summary, summary_by, report, report_by}
 use Rattle.metaedit_top.specs.Stage.{HasActed, IsSettled, OnHeld, ReadsFile}
 use Rattle.metaedit_top.proofs.Acted.{alone_on}
 use Rattle.metaedit_top.proofs.Sets.{same_fields, payload_is, holds_back}
+use Rattle.metaedit_top.proofs.FieldOrder.{all_shown}
+use Rattle.metaedit_top.specs.Tell.{told_of}
+use Rattle.part_tree.specs.Fields.{IsMap, names}
+use Rattle.me_report.specs.Lines.{count_line}
+use Rattle.me_report.specs.Report.{field_lines, kind_line, show_report, value_line}
+use Rattle.part_tree.specs.declared.field.Value.{Value}
 
 -- ---- how much the rules can find
 
@@ -190,3 +195,30 @@ module _ (q : Request) (is : q.command ≡ command.Md5) where
       ∙ ap (λ (d : List ℕ). look_summary (payload o) (finding_count (fields o) (Some d))) same ∙ sym (ap (λ (c : Command). summary_by c q o) is))
       (text_is ∙ ap (λ (g : FieldMap). checksum_text g (Some digest)) (same_fields o m mapped)
       ∙ ap (λ (d : List ℕ). checksum_text (fields o) (Some d)) same ∙ sym (ap (λ (c : Command). report_by c q o stood) is))
+
+-- ---- what is shown
+
+no_lines : (f : FieldMap) (n : FieldName) → f n ≡ [] → field_lines f n ≡ []
+no_lines f n h = ap (λ (vs : List Value). flat_map (value_line f n) vs) h
+
+-- the map shows what is shown of the file
+shown_is : (o : List ℕ) (m : WaveMap) → IsMapOf o m → IsMap m.fields → show_report (told_of m) ≡ shown_text o
+shown_is o m is ordered =
+    let same = same_fields o m is in
+    ap (λ (k : Kind). kind_line k ++ (count_line (codes "essence ") m.sound.len ++ flat_map (field_lines (values m.fields)) (names m.fields))) is.kind
+    ∙ ap (λ (n : ℕ). kind_line (kind_of o) ++ (count_line (codes "essence ") n ++ flat_map (field_lines (values m.fields)) (names m.fields))) (payload_is o m is)
+    ∙ ap (λ (f : FieldMap). kind_line (kind_of o) ++ (count_line (codes "essence ") (payload o) ++ flat_map (field_lines f) (names m.fields))) same
+    ∙ ap (λ (x : List ℕ). kind_line (kind_of o) ++ (count_line (codes "essence ") (payload o) ++ x))
+    (all_shown (fields o) (field_lines (fields o)) (no_lines (fields o)) (λ id. refl) m.fields ordered (λ n. sym (is.field_values n)))
+
+module _ (q : Request) (is : q.command ≡ command.Show) where
+  pub show_reads : reads_file q.command ≡ true
+  show_reads = ap reads_file is
+
+  pub show_acts : (a b : Disk) (m : WaveMap) (f : Finished) → ReadsOnly a b → ((o : List ℕ) → Holds a o → IsMapOf o m × (why_in o ≡ None)) → IsSettled a → IsMap m.fields
+      → f.summary ≡ look_summary m.sound.len 0 → f.text ≡ show_report (told_of m) → (stood : Bool) (o : List ℕ) → Holds a o → HasActed q o stood a b f
+  show_acts a b m f reads file settled ordered summary_is text_is stood o h =
+      let mapped = (file o h).0 in
+      look_acts q (ap edits_file is) a b reads stood o f settled h (subst (λ (c : Command). AcceptsBy c q.rules q.edit o) (sym is) (file o h).1)
+      (summary_is ∙ ap (λ (n : ℕ). look_summary n 0) (payload_is o m mapped) ∙ sym (ap (λ (c : Command). summary_by c q o) is))
+      (text_is ∙ shown_is o m mapped ordered ∙ sym (ap (λ (c : Command). report_by c q o stood) is))

@@ -86,6 +86,7 @@ module _ (words : List (List ℕ)) (q r : Request) (a b : Disk) (o : List ℕ) (
     where
       go : (c : Command) → AcceptsBy c q.rules q.edit o → r.command ≡ c → reads_file r.command ≡ true → why_in o ≡ None
       go command.Set h e reads = h.supported
+      go command.Show h e reads = h
       go command.Validate h e reads = h
       go command.Md5 h e reads = h
       go command.Recover h e reads = absurd (not_true (sym (ap reads_file e) ∙ reads))
@@ -103,6 +104,10 @@ module _ (words : List (List ℕ)) (q r : Request) (a b : Disk) (o : List ℕ) (
           not_true : false ≡ true → ⊥
           not_true x = absurd cc
       go command.Md5 h e edits = absurd (not_true (sym (ap edits_file e) ∙ edits))
+        where
+          not_true : false ≡ true → ⊥
+          not_true x = absurd cc
+      go command.Show h e edits = absurd (not_true (sym (ap edits_file e) ∙ edits))
         where
           not_true : false ≡ true → ⊥
           not_true x = absurd cc

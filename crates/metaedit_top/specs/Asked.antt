@@ -73,6 +73,7 @@ pub record AcceptsEdit (rules : RuleSet) (e : List EditItem) (o : List ℕ) : Ty
 abbrev pub reads_file : Command → Bool
 reads_file command.Recover = false
 reads_file command.Set = true
+reads_file command.Show = true
 reads_file command.Validate = true
 reads_file command.Md5 = true
 
@@ -80,6 +81,7 @@ reads_file command.Md5 = true
 abbrev pub edits_file : Command → Bool
 edits_file command.Set = true
 edits_file command.Recover = false
+edits_file command.Show = false
 edits_file command.Validate = false
 edits_file command.Md5 = false
 
@@ -87,6 +89,7 @@ edits_file command.Md5 = false
 abbrev pub AcceptsBy : Command → RuleSet → List EditItem → List ℕ → Type 0
 AcceptsBy command.Set rules e o = AcceptsEdit rules e o
 AcceptsBy command.Recover rules e o = ⊤
+AcceptsBy command.Show rules e o = why_in o ≡ None
 AcceptsBy command.Validate rules e o = why_in o ≡ None
 AcceptsBy command.Md5 rules e o = why_in o ≡ None
 

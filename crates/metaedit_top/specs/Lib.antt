@@ -5,3 +5,4 @@ pub mod Stage
 pub mod Text
 pub mod Changed
 pub mod Set
+pub mod Tell

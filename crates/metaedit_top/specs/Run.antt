@@ -1,5 +1,5 @@
 -- How a run ends: what it leaves of the file and of what a crash may leave, what it tells, and why it stops.
-use Rattle.std.specs.Prelude.{◌≡◌, ◌⊎◌, ℕ, ◌+◌, ◌≤◌, Bool, true, false, IsTrue, is_some, List, [], length, codes, Option, Some, None, Ok, ⊤}
+use Rattle.std.specs.Prelude.{◌≡◌, ◌⊎◌, ℕ, ◌+◌, ◌≤◌, Bool, true, false, IsTrue, is_some, List, [], ◌++◌, length, codes, Option, Some, None, Ok, ⊤}
 use Rattle.me_bytes.specs.Bytes.{IsBytes}
 use Rattle.me_disk.specs.Causes.{Rose}
 use Rattle.me_disk.specs.Disk.{Disk, Image, Leaves, Only, read_as, bytes_of}
@@ -24,6 +24,10 @@ use Rattle.me_report.specs.declared.line.Summary.{Summary}
 use Rattle.me_report.specs.Checksums.{checksum_text, finding_count}
 use Rattle.me_report.specs.Done.{done_line}
 use Rattle.me_report.specs.Findings.{findings_text}
+use Rattle.me_report.specs.Lines.{count_line}
+use Rattle.me_report.specs.Report.{kind_line, field_lines}
+use Rattle.part_tree.specs.Names.{field_names}
+use Rattle.std.specs.List.{flat_map}
 use Rattle.metaedit_top.specs.declared.outcome.Stop.{Stop}
 use Rattle.metaedit_top.specs.declared.outcome.Stop.TheVariants as stop
 use Rattle.metaedit_top.specs.declared.words.Command.{Command}
@@ -43,6 +47,10 @@ no_edit = record { changed = false; in_place = false; payload = 0; findings = 0 
 abbrev pub look_summary : ℕ → ℕ → Summary
 look_summary n k = record { changed = false; in_place = false; payload = n; findings = k }
 
+-- what is shown of a file: its kind, the length of its sound, and the lines of its fields, in field order
+abbrev pub shown_text : List ℕ → List ℕ
+shown_text o = kind_line (kind_of o) ++ (count_line (codes "essence ") (payload o) ++ flat_map (field_lines (fields o)) field_names)
+
 -- what the fields of a file break as they stand
 abbrev pub findings_in : RuleSet → List ℕ → List Broken
 findings_in rules o = findings (kind_of o) (fields o) [] rules
@@ -56,6 +64,7 @@ was_redone (Redone len) = true
 abbrev pub summary_by : Command → Request → List ℕ → Summary
 summary_by command.Set q o = record { changed = changes o q.edit; in_place = fits o q.edit; payload = payload o; findings = 0 }
 summary_by command.Recover q o = no_edit
+summary_by command.Show q o = look_summary (payload o) 0
 summary_by command.Validate q o = look_summary (payload o) (length (findings_in q.rules o))
 summary_by command.Md5 q o = look_summary (payload o) (finding_count (fields o) (Some (md5 (sound o))))
 
@@ -72,6 +81,7 @@ recovered_line false = codes "recovered nothing\n"
 abbrev pub report_by : Command → Request → List ℕ → Bool → List ℕ
 report_by command.Set q o stood = done_line (summary q o)
 report_by command.Recover q o stood = recovered_line stood
+report_by command.Show q o stood = shown_text o
 report_by command.Validate q o stood = findings_text (findings_in q.rules o)
 report_by command.Md5 q o stood = checksum_text (fields o) (Some (md5 (sound o)))
 

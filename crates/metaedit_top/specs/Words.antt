@@ -31,9 +31,10 @@ abbrev pub command_of : Text → Option Command
 command_of word =
     if bytes_eq word (codes "set") then Some command.Set
     else (if bytes_eq word (codes "recover") then Some command.Recover
+    else (if bytes_eq word (codes "show") then Some command.Show
     else (if bytes_eq word (codes "validate") then Some command.Validate
     else (if bytes_eq word (codes "md5") then Some command.Md5
-    else None)))
+    else None))))
 
 -- a word that begins with `-`
 abbrev pub is_dashed : Text → Bool
@@ -57,6 +58,7 @@ rules_of word =
 abbrev pub usual_rules : Command → RuleSet
 usual_rules command.Set = Base
 usual_rules command.Recover = Base
+usual_rules command.Show = Base
 usual_rules command.Validate = Fadgi
 usual_rules command.Md5 = Base
 
@@ -64,6 +66,7 @@ usual_rules command.Md5 = Base
 abbrev pub takes_rules : Command → Bool
 takes_rules command.Set = true
 takes_rules command.Recover = false
+takes_rules command.Show = false
 takes_rules command.Validate = true
 takes_rules command.Md5 = false
 
@@ -102,6 +105,7 @@ options command words = if takes_rules command then with_rules (usual_rules comm
 abbrev pub fits : Command → List Text → Bool
 fits command.Set items = not (length items == 0) && not (list_any is_dashed items)
 fits command.Recover items = length items == 0
+fits command.Show items = length items == 0
 fits command.Validate items = length items == 0
 fits command.Md5 items = length items == 0
 

@@ -9,7 +9,7 @@ ghost use Rattle.metaedit_top.specs.Stage.{ActLeaves, ActStops, HasActed, IsSett
 
 use crate::outcome::{Finished, Stop};
 use crate::set::set;
-use crate::tell::{md5, validate};
+use crate::tell::{md5, show, validate};
 use crate::words::{Command, Request};
 use me_disk::Depot;
 use me_report::Summary;
@@ -75,6 +75,7 @@ fn act<D: Depot>(
             Err(_) => Err(Stop::Memory),
             Ok(finished) => Ok(finished),
         },
+        Command::Show => show(alloc, depot, request),
         Command::Validate => validate(alloc, depot, request),
         Command::Md5 => md5(alloc, depot, request),
     }

@@ -18,6 +18,8 @@ pub enum Command {
     Set,
     /// Settles the file after a crash, and does nothing else.
     Recover,
+    /// Shows the kind, the length of the sound and the fields.
+    Show,
     /// Tells which of the rules the fields break as they stand.
     Validate,
     /// Tells the checksums of the sound: those that the file stores, and the computed one.
@@ -63,6 +65,8 @@ fn command_of(word: &[u8]) -> Option<Command>
         Some(Command::Set)
     } else if word == b"recover".as_slice() {
         Some(Command::Recover)
+    } else if word == b"show".as_slice() {
+        Some(Command::Show)
     } else if word == b"validate".as_slice() {
         Some(Command::Validate)
     } else if word == b"md5".as_slice() {
@@ -94,7 +98,7 @@ fn usual_rules(command: Command) -> RuleSet
     ensures { result ≡ spec.usual_rules command }
 {
     match command {
-        Command::Set | Command::Recover | Command::Md5 => RuleSet::Base,
+        Command::Set | Command::Recover | Command::Show | Command::Md5 => RuleSet::Base,
         Command::Validate => RuleSet::Fadgi,
     }
 }

@@ -1,5 +1,5 @@
 use Rattle.std.proofs.Common.{◌≡◌, Some, true, subst, sym}
-use Rattle.me_disk.specs.Disk.{Only, read_as, bytes_of}
+use Rattle.me_disk.specs.Disk.{bytes_of}
 use Rattle.part_tree.specs.declared.why.Why.{Why}
 use Rattle.metaedit_top.specs.Asked.{reads_file, why_in}
 use Rattle.metaedit_top.specs.Stage.{OnHeld}
