@@ -10,6 +10,8 @@ mod outcome;
 mod run;
 mod set;
 mod tell;
+#[cfg(test)]
+mod tests;
 mod text;
 mod top;
 mod word;
