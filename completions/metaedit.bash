@@ -2,10 +2,8 @@
 _metaedit() {
     local commands='set recover'
     local with_rules=' set '
-    # telling commands: begin
     commands="$commands show validate md5"
     with_rules=' set validate '
-    # telling commands: end
     local rules='base ebu info fadgi'
     local fields='Description= Originator= OriginatorReference= OriginationDate= OriginationTime= TimeReference= UMID=
         LoudnessValue= LoudnessRange= MaxTruePeakLevel= MaxMomentaryLoudness= MaxShortTermLoudness= CodingHistory=
