@@ -7,7 +7,7 @@ use Rattle.me_disk.specs.Disk.{Disk}
 use Rattle.edit_journal.specs.Settled.{StandsAlone}
 use Rattle.file_swap.specs.Swap.{Swapping, fresh, Underway}
 use Rattle.file_swap.proofs.Installs.{begins}
-use Rattle.file_swap.specs.Plans.{CanRun, Belongs}
+use Rattle.part_tree.specs.Plans.{CanRun, Belongs}
 use Rattle.crash_rows.specs.Worked.{file, in_place, rewrite}
 
 pub rules : CanRun in_place

@@ -2,7 +2,8 @@
 use Rattle.std.proofs.Common.{◌≡◌, ℕ, zero, suc, ◌+◌, ◌≤◌, ◌<◌, List, [], ◌∷◌, ◌++◌, length, take, get_or, sym, ◌∙◌, ap, arith, append_assoc}
 use Rattle.std.proofs.lemmas.List.{take_more, flat_map_more}
 use Rattle.part_tree.specs.declared.plan.Patch.{Patch}
-use Rattle.edit_journal.specs.Journal.{spelled_patch, spelled_patches, all_bytes}
+use Rattle.edit_journal.specs.Journal.{spelled_patch, spelled_patches}
+use Rattle.part_tree.specs.Patches.{all_bytes}
 
 pub three_put : (a b c d x y z : List ℕ) → b ≡ a ++ x → c ≡ b ++ y → d ≡ c ++ z → d ≡ a ++ ((x ++ y) ++ z)
 three_put a b c d x y z one two three =

@@ -1,7 +1,8 @@
 // Spells a journal.
 ghost use Rattle.std.specs.Prelude.{◌≡◌, ◌++◌, ◌<◌, ◌≤◌, ◌^◌, length, OnOk, IfOk};
 ghost use Rattle.part_tree.specs.declared.plan.Patch.{Patch};
-ghost use Rattle.edit_journal.specs.Journal.{head, spelled, spelled_patch, spelled_patches, most_bytes, all_bytes, Rules, Journal};
+ghost use Rattle.edit_journal.specs.Journal.{head, spelled, spelled_patch, spelled_patches, Journal};
+ghost use Rattle.part_tree.specs.Patches.{most_bytes, all_bytes, Rules};
 
 use me_bytes::{put_le32, put_le64};
 use part_tree::{Bytes, NoMemory, Patch};

@@ -6,7 +6,7 @@ ghost use Rattle.me_disk.specs.Steps.{ReadsOnly};
 ghost use Rattle.me_disk.specs.Holds.{Holds};
 ghost use Rattle.part_tree.specs.Fields.{values};
 ghost use Rattle.field_model.specs.Broken.{is_wave};
-ghost use Rattle.file_swap.specs.Plans.{Belongs, CanRun};
+ghost use Rattle.part_tree.specs.Plans.{Belongs, CanRun};
 ghost use Rattle.wave_file.specs.Map.{IsMapOf, IsSound};
 ghost use Rattle.wave_plan.specs.Planned.{PlansEdit};
 ghost use Rattle.edit_planner.specs.Plan.{IsReady, Maps, SoundMap, fields_in, kind_in};

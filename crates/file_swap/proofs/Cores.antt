@@ -7,7 +7,7 @@ use Rattle.me_disk.specs.Disk.{Disk, IsLawful, Leaves}
 use Rattle.me_disk.specs.Steps.{Writes}
 use Rattle.file_swap.specs.Steps.{Step, steps, calls, step_at, step_bytes}
 use Rattle.file_swap.specs.Steps.Step.{Appends}
-use Rattle.file_swap.specs.Plans.{CanRun, Belongs}
+use Rattle.part_tree.specs.Plans.{CanRun, Belongs}
 use Rattle.file_swap.specs.Midway.{Midway, IsNear, held_at}
 use Rattle.file_swap.specs.Fits.{StepDoes, Permits, HoldsAfter}
 use Rattle.file_swap.specs.Swap.{fresh, Underway, TurnWrites}

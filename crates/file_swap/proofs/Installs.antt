@@ -13,9 +13,9 @@ use Rattle.me_disk.specs.Calls.Call.{BeginWork, AppendWork, SyncWork, DropWork, 
 use Rattle.me_disk.proofs.Runs.{same_slots}
 use Rattle.edit_journal.specs.Journal.{spelled}
 use Rattle.edit_journal.specs.Settled.{Settles, StandsAlone}
-use Rattle.file_swap.specs.Steps.{Step, Range, block, blocks, cut_in, part, appends, writes, segment_steps, cut_steps, end_steps, steps, calls, install_call, applied, bytes_by, bytes_written}
+use Rattle.file_swap.specs.Steps.{Step, Range, block, blocks, cut_in, part, appends, writes, segment_steps, cut_steps, end_steps, steps, calls, install_call, bytes_by, bytes_written}
 use Rattle.file_swap.specs.Steps.Step.{Makes, Reads, Appends}
-use Rattle.file_swap.specs.Plans.{CanRun, Belongs}
+use Rattle.part_tree.specs.Plans.{applied, CanRun, Belongs}
 use Rattle.file_swap.specs.Midway.Region.{Old}
 use Rattle.file_swap.specs.Midway.{Region, region_after, region_in, regions, region_at, Phase, IsIn}
 use Rattle.file_swap.specs.Swap.{fresh, Underway}

@@ -11,7 +11,7 @@ use Rattle.me_disk.specs.Calls.Call.{BeginWork, AppendWork, SyncWork, DropWork, 
 use Rattle.me_disk.specs.Steps.{Does, ReadsOnly}
 use Rattle.me_disk.proofs.Runs.{AtOk-either, Leaves-does, slots_ok, same_image, same_slots}
 use Rattle.edit_journal.proofs.Laid.{Torn-write, Torn-cut}
-use Rattle.file_swap.specs.Steps.{applied}
+use Rattle.part_tree.specs.Plans.{applied}
 use Rattle.file_swap.specs.Midway.Region.{Old, Laying, Laid}
 use Rattle.file_swap.specs.Midway.{Region, Moment, At, IsIn, IsJournal, IsTorn, HasJournal, called, region_after}
 use Rattle.file_swap.specs.Fits.{FitsCall, InPatches, StaysLong}

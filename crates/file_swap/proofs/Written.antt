@@ -9,11 +9,12 @@ use Rattle.part_tree.specs.declared.plan.Segment.TheVariants.{Copy, Literal}
 use Rattle.part_tree.specs.declared.plan.Plan.{Plan}
 use Rattle.part_tree.specs.declared.plan.Plan.TheVariants.{InPlace, Rewrite}
 use Rattle.me_disk.specs.Calls.Call.{AppendWork, WriteMain, SetMainLen}
-use Rattle.edit_journal.specs.Journal.{spelled, all_bytes}
+use Rattle.edit_journal.specs.Journal.{spelled}
 use Rattle.edit_journal.proofs.Laws.{length-spelled_patches}
 use Rattle.file_swap.specs.Steps.{Step, Range, block, blocks, cut_in, part, appends, writes, segment_steps, after_writes, cut_steps, install_steps, end_steps, steps, calls, step_bytes, bytes_in, bytes_by, bytes_written}
 use Rattle.file_swap.specs.Steps.Step.{Makes, Reads, Appends}
-use Rattle.file_swap.specs.Plans.{segment_len, total_len, CanRun}
+use Rattle.part_tree.specs.Patches.{all_bytes}
+use Rattle.part_tree.specs.Plans.{segment_len, total_len, CanRun}
 use Rattle.file_swap.proofs.Rests.{bytes_most}
 
 bytes_in-append : (xs ys : List Step) → bytes_in (xs ++ ys) ≡ bytes_in xs + bytes_in ys

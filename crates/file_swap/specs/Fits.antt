@@ -9,11 +9,12 @@ use Rattle.me_disk.specs.Disk.{Disk, bytes_of}
 use Rattle.me_disk.specs.Steps.{Does, ReadsOnly, HasCause}
 use Rattle.me_disk.specs.Calls.{Call, Allows}
 use Rattle.me_disk.specs.Calls.Call.{BeginWork, AppendWork, SyncWork, DropWork, InstallMain, InstallJournal, WriteMain, SetMainLen, SyncMain, DropJournal}
-use Rattle.edit_journal.specs.Journal.{Touches}
-use Rattle.file_swap.specs.Steps.{Step, applied}
+use Rattle.part_tree.specs.Patches.{Touches}
+use Rattle.file_swap.specs.Steps.{Step}
 use Rattle.file_swap.specs.Steps.Step.{Makes, Reads, Appends}
 use Rattle.file_swap.specs.Midway.Region.{Old, Laying, Laid}
 use Rattle.file_swap.specs.Midway.{Moment, IsJournal, IsTorn, after}
+use Rattle.part_tree.specs.Plans.{applied}
 
 -- the range is in the plan's patches
 abbrev pub InPatches : Plan → ℕ → ℕ → Type 0

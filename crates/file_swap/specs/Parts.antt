@@ -9,7 +9,7 @@ use Rattle.part_tree.specs.declared.plan.Plan.TheVariants.{Rewrite}
 use Rattle.std.specs.Prelude.{IsTrue}
 use Rattle.me_disk.specs.Disk.{Disk, bytes_of}
 use Rattle.me_disk.specs.Calls.Call.{BeginWork, AppendWork, SyncWork, InstallMain}
-use Rattle.file_swap.specs.Plans.{AddsUp}
+use Rattle.part_tree.specs.Plans.{AddsUp}
 use Rattle.file_swap.specs.Steps.{Step, block, part, appends, copies, segment_steps, end_steps}
 use Rattle.file_swap.specs.Steps.Step.{Makes, Reads, Appends}
 use Rattle.file_swap.specs.declared.rewrite.Stage.{Stage}

@@ -8,8 +8,8 @@ use Rattle.part_tree.specs.declared.plan.Plan.{Plan}
 use Rattle.part_tree.specs.declared.plan.Plan.TheVariants.{InPlace, Rewrite}
 use Rattle.me_disk.specs.Calls.{Call, piece}
 use Rattle.me_disk.specs.Calls.Call.{BeginWork, AppendWork, SyncWork, InstallMain, InstallJournal, WriteMain, SetMainLen, SyncMain, DropJournal}
-use Rattle.edit_journal.specs.Journal.{spelled, all_bytes}
-use Rattle.edit_journal.specs.Settled.{laid}
+use Rattle.edit_journal.specs.Journal.{spelled}
+use Rattle.part_tree.specs.Patches.{all_bytes}
 
 -- a call that changes the depot, one that reads a range of the file, or one that appends the n bytes that were read last
 pub data Step : Type 0 where
@@ -122,15 +122,3 @@ bytes_by p k = bytes_in (take k (steps p))
 abbrev pub bytes_written : Plan → ℕ
 bytes_written (InPlace old new ps) = 24 + 12 * length ps + 2 * all_bytes ps
 bytes_written (Rewrite new segments) = new
-
--- ---- the new file
-
--- what a segment makes of a file
-abbrev pub segment_bytes : List ℕ → Segment → List ℕ
-segment_bytes o (Copy s) = take s.len (drop s.at o)
-segment_bytes o (Literal b) = b
-
--- what the plan makes of a file
-abbrev pub applied : Plan → List ℕ → List ℕ
-applied (InPlace old new ps) o = laid new ps o
-applied (Rewrite new segments) o = flat_map (segment_bytes o) segments

@@ -8,8 +8,8 @@ use Rattle.me_disk.specs.declared.depot.DepotFault.{DepotFault}
 use Rattle.me_disk.specs.Disk.{Disk, Leaves}
 use Rattle.me_disk.specs.Steps.{Writes, HasCause}
 use Rattle.edit_journal.specs.Settled.{StandsAlone}
-use Rattle.file_swap.specs.Steps.{applied, bytes_by, bytes_written}
-use Rattle.file_swap.specs.Plans.{Belongs}
+use Rattle.file_swap.specs.Steps.{bytes_by, bytes_written}
+use Rattle.part_tree.specs.Plans.{applied, Belongs}
 use Rattle.file_swap.specs.Midway.{Midway, SettlesEither, held_at}
 
 -- Its plan, how many calls it has made, what it holds of the file, and whether a call has failed.

@@ -3,8 +3,8 @@ ghost use Rattle.std.specs.Prelude.{◌≡◌, ◌+◌, ◌≤◌, ◌<◌, ℕ,
 ghost use Rattle.part_tree.specs.declared.plan.Plan.{Plan};
 ghost use Rattle.me_disk.specs.Disk.{Image};
 ghost use Rattle.edit_journal.specs.Settled.{Settles, StandsAlone};
-ghost use Rattle.file_swap.specs.Steps.{applied, install_call, bytes_by, bytes_written, calls};
-ghost use Rattle.file_swap.specs.Plans.{CanRun, Belongs};
+ghost use Rattle.file_swap.specs.Steps.{install_call, bytes_by, bytes_written, calls};
+ghost use Rattle.part_tree.specs.Plans.{applied, CanRun, Belongs};
 ghost use Rattle.file_swap.specs.Midway.{Phase};
 ghost use Rattle.file_swap.specs.Swap.{fresh, Underway};
 

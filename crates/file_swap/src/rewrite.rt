@@ -1,7 +1,7 @@
 // A new file out of ranges of the old one and bytes of its own.
 ghost use Rattle.std.specs.Prelude.{◌≡◌, ◌≢◌, ℕ, ◌+◌, ◌-◌, ◌≤◌, ◌<◌, ◌^◌, ◌∷◌, [], min, List, length, take, drop, IsTrue, IfOk, OnOk, OnErr, IfSome, IfNone, ◌↔◌};
 ghost use Rattle.me_disk.specs.Disk.{bytes_of};
-ghost use Rattle.file_swap.specs.Plans.{AddsUp};
+ghost use Rattle.part_tree.specs.Plans.{AddsUp};
 ghost use Rattle.file_swap.specs.Parts.{span_of, literal_of};
 ghost use Rattle.file_swap.specs.Fits.{Permits, StepDoes, HoldsAfter};
 

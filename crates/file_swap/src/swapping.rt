@@ -3,7 +3,7 @@ ghost use Rattle.std.specs.Prelude.{◌≡◌, ◌≢◌, ◌+◌, ◌<◌, true
 ghost use Rattle.me_disk.specs.Causes.{Rose};
 ghost use Rattle.me_disk.specs.Disk.{Leaves};
 ghost use Rattle.file_swap.specs.Steps.{calls, step_at, step_bytes};
-ghost use Rattle.file_swap.specs.Plans.{CanRun};
+ghost use Rattle.part_tree.specs.Plans.{CanRun};
 ghost use Rattle.file_swap.specs.Midway.{IsNear};
 ghost use Rattle.file_swap.specs.Swap.{fresh, Underway, Runs, TurnWrites};
 

@@ -6,11 +6,12 @@ use Rattle.std.proofs.lemmas.List.{reverse-append, reverse-reverse}
 use Rattle.me_disk.specs.declared.memory.Pick.{Pick}
 use Rattle.me_disk.specs.declared.memory.Pick.TheVariants.{Before, After, Torn}
 use Rattle.me_disk.specs.Disk.{Image, read_as}
-use Rattle.me_disk.specs.Calls.{Call, overlay, TornBytes, CutBytes}
+use Rattle.me_disk.specs.Calls.{Call, TornBytes, CutBytes}
 use Rattle.me_disk.specs.Calls.Call.{BeginWork, AppendWork, SyncWork, DropWork, InstallMain, InstallJournal, WriteMain, SetMainLen, SyncMain, DropJournal}
 use Rattle.me_disk.specs.Memory.{slots_of, MayLeave, reads_now}
 use Rattle.me_disk.specs.Reopened.{unsynced, synced, main_piece, torn, whole, replay, kept_main, picked}
 use Rattle.me_disk.specs.Store.{IsInside, WereInside}
+use Rattle.me_bytes.specs.Bytes.{overlay}
 use Rattle.me_disk.proofs.Does.{overlay-torn, CutBytes-refl, OnBoth-refl, OnBoth-there}
 use Rattle.me_disk.proofs.Runs.{TornBytes-refl}
 

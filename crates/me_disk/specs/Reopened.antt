@@ -3,10 +3,11 @@ use Rattle.std.specs.Prelude.{ℕ, ◌-◌, List, [], ◌∷◌, length, take, r
 use Rattle.me_disk.specs.declared.memory.Pick.{Pick}
 use Rattle.me_disk.specs.declared.memory.Pick.TheVariants.{Before, After, Torn}
 use Rattle.me_disk.specs.Disk.{Image, bytes_of, read_as}
-use Rattle.me_disk.specs.Calls.{Call, overlay}
+use Rattle.me_disk.specs.Calls.{Call}
 use Rattle.me_disk.specs.Calls.Call.{InstallMain, WriteMain, SetMainLen, SyncMain}
 use Rattle.me_disk.specs.Limits.{reopened_limits}
 use Rattle.me_disk.specs.Memory.{Memory, slots_of, fresh}
+use Rattle.me_bytes.specs.Bytes.{overlay}
 
 -- the calls since `Main` was last made safe, by a sync or an install, the newest first
 abbrev pub unsynced : List Call → List Call

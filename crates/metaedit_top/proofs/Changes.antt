@@ -12,10 +12,10 @@ use Rattle.part_tree.specs.declared.field.EditItem.{EditItem}
 use Rattle.part_tree.specs.declared.plan.Patch.{Patch}
 use Rattle.part_tree.specs.declared.plan.Plan.{Plan}
 use Rattle.part_tree.specs.declared.plan.Plan.TheVariants.{InPlace, Rewrite}
-use Rattle.edit_journal.specs.Journal.{all_bytes}
+use Rattle.part_tree.specs.Patches.{all_bytes}
 use Rattle.edit_journal.specs.Settled.{Settles, StandsAlone}
 use Rattle.file_swap.specs.Midway.{SettlesEither}
-use Rattle.file_swap.specs.Steps.{applied, bytes_by, bytes_written}
+use Rattle.file_swap.specs.Steps.{bytes_by, bytes_written}
 use Rattle.file_swap.specs.Swap.{Runs, fresh}
 use Rattle.me_report.specs.declared.line.Summary.{Summary}
 use Rattle.me_report.specs.Done.{done_line}
@@ -24,6 +24,7 @@ use Rattle.wave_model.specs.Room.{patches}
 use Rattle.wave_plan.specs.Planned.{IsPlanOf, IsForm}
 use Rattle.metaedit_top.specs.declared.outcome.Finished.{Finished}
 use Rattle.metaedit_top.specs.Changed.{IsChanged, MayChange, change_bytes, changed_summary, is_in_place, roomy}
+use Rattle.part_tree.specs.Plans.{applied}
 use Rattle.metaedit_top.proofs.Acted.{alone_only}
 
 not_true : (t : Bool) → (t ≡ true → ⊥) → t ≡ false

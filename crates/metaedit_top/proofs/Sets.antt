@@ -22,7 +22,7 @@ use Rattle.part_tree.specs.declared.why.ReadFault.{ReadFault}
 use Rattle.part_tree.specs.declared.why.ReadFault.TheVariants as read
 use Rattle.part_tree.specs.declared.why.Why.{Why}
 use Rattle.part_tree.specs.Fields.{values}
-use Rattle.edit_journal.specs.Journal.{all_bytes}
+use Rattle.part_tree.specs.Patches.{all_bytes}
 use Rattle.edit_journal.specs.Settled.{Settles, StandsAlone}
 use Rattle.field_model.specs.Broken.{Test, on_item, on_fields, Rule, rules, chooses, failing, findings_from, findings, first_found, first_name, broken}
 use Rattle.field_model.specs.Fields.{FieldMap}

@@ -10,7 +10,7 @@ use Rattle.part_tree.specs.declared.why.Why.TheVariants.{NotBuilt}
 use Rattle.part_tree.specs.Kinds.{kind}
 use Rattle.field_model.specs.Broken.{broken}
 use Rattle.field_model.specs.Update.{raw_items, effective}
-use Rattle.edit_journal.specs.Journal.{all_bytes}
+use Rattle.part_tree.specs.Patches.{all_bytes}
 use Rattle.wave_model.specs.Edited.{Edited, sounds}
 use Rattle.wave_model.specs.Fields.{fields}
 use Rattle.wave_model.specs.Large.{too_large}

@@ -7,7 +7,7 @@ use Rattle.me_disk.specs.Steps.{ReadsOnly}
 use Rattle.part_tree.specs.declared.field.EditItem.{EditItem}
 use Rattle.part_tree.specs.declared.plan.Plan.{Plan}
 use Rattle.part_tree.specs.declared.plan.Plan.TheVariants.{InPlace, Rewrite}
-use Rattle.edit_journal.specs.Journal.{all_bytes}
+use Rattle.part_tree.specs.Patches.{all_bytes}
 use Rattle.edit_journal.specs.Settled.{Settles, StandsAlone}
 use Rattle.field_model.specs.Update.{raw_items}
 use Rattle.carrier_model.specs.Large.{limited}

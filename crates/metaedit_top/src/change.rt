@@ -5,7 +5,7 @@ ghost use Rattle.me_disk.specs.Disk.{Only, Leaves, read_as, bytes_of};
 ghost use Rattle.me_disk.specs.Holds.{Holds};
 ghost use Rattle.me_report.specs.Done.{done_line as line_of};
 ghost use Rattle.edit_journal.specs.Settled.{StandsAlone};
-ghost use Rattle.file_swap.specs.Plans.{Belongs};
+ghost use Rattle.part_tree.specs.Plans.{Belongs};
 ghost use Rattle.file_swap.specs.Swap.{Runs, fresh};
 ghost use Rattle.edit_planner.specs.Plan.{IsReady, Maps, SoundMap, fields_in, kind_in};
 ghost use Rattle.metaedit_top.specs.Changed.{ChangeLeaves, ChangeStops, IsChanged, MayChange};

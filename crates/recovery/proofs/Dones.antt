@@ -7,13 +7,14 @@ use Rattle.me_disk.specs.Disk.{Image, Disk, IsLawful, Only, Leaves, plain, read_
 use Rattle.me_disk.specs.Steps.{Does, ReadsOnly}
 use Rattle.me_disk.specs.Calls.Call.{DropWork}
 use Rattle.me_disk.proofs.Runs.{Leaves-trans, Leaves-does, same_image}
-use Rattle.edit_journal.specs.Settled.{laid, SettlesAs, Settles, StandsAlone, IsDamaged}
+use Rattle.edit_journal.specs.Settled.{SettlesAs, Settles, StandsAlone, IsDamaged}
 use Rattle.edit_journal.specs.Damage.{damage_over}
 use Rattle.edit_journal.specs.Reads.{IsSoundHead}
 use Rattle.edit_journal.specs.declared.fault.JournalHead.{JournalHead}
 use Rattle.edit_journal.proofs.Laws.{damage_unsettles}
 use Rattle.recovery.specs.Redo.{Redo, IsRedo, made, SettlesAlike}
 use Rattle.recovery.specs.Recovered.{IsBroken, IsRedone, Recovers}
+use Rattle.part_tree.specs.Patches.{laid}
 use Rattle.recovery.proofs.Alike.{entry_settles, alike}
 use Rattle.recovery.proofs.Recovers.{same_entry}
 

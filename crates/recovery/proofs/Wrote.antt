@@ -6,7 +6,7 @@ use Rattle.me_disk.specs.declared.depot.DepotFault.{DepotFault}
 use Rattle.part_tree.specs.declared.plan.Patch.{Patch}
 use Rattle.me_disk.specs.Disk.{Disk, read_as, bytes_of}
 use Rattle.me_disk.specs.Steps.{Writes, ReadsOnly}
-use Rattle.edit_journal.specs.Journal.{Journal, all_bytes}
+use Rattle.edit_journal.specs.Journal.{Journal}
 use Rattle.edit_journal.specs.Damage.{test, first, unless, lacks, number, damage, damage_over}
 use Rattle.edit_journal.specs.Patches.{patches_in}
 use Rattle.edit_journal.specs.declared.next.Cursor.{Cursor}
@@ -19,6 +19,7 @@ use Rattle.recovery.specs.declared.whole.RecoverFault.{RecoverFault}
 use Rattle.recovery.specs.declared.whole.RecoverFault.TheVariants.{NoFile, Damaged, Depot}
 use Rattle.recovery.specs.Redo.{Redo, Lefts}
 use Rattle.recovery.specs.Recovered.{OnRecoverDamage, IsBroken, bytes_over, bytes_to_redo, RecoverWrites}
+use Rattle.part_tree.specs.Patches.{all_bytes}
 
 -- ---- one call after another
 

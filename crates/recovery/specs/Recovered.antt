@@ -2,10 +2,11 @@
 use Rattle.std.specs.Prelude.{◌≡◌, ◌≢◌, ℕ, ◌+◌, ◌≤◌, IsTrue, IsSome, is_some, if◌then◌else◌, List, Option, Some, None, Result, Err, ⊤}
 use Rattle.part_tree.specs.declared.plan.Patch.{Patch}
 use Rattle.me_disk.specs.Disk.{Slots, Image, Disk, read_as, bytes_of}
-use Rattle.edit_journal.specs.Journal.{Journal, all_bytes}
+use Rattle.edit_journal.specs.Journal.{Journal}
 use Rattle.edit_journal.specs.Damage.{damage_over}
 use Rattle.edit_journal.specs.Patches.{patches_in}
 use Rattle.edit_journal.specs.Settled.{Settles, StandsAlone, IsDamaged}
+use Rattle.part_tree.specs.Patches.{all_bytes}
 use Rattle.recovery.specs.declared.whole.Recovered.{Recovered}
 use Rattle.recovery.specs.declared.whole.Recovered.TheVariants.{Nothing, Redone}
 use Rattle.recovery.specs.declared.whole.RecoverFault.{RecoverFault}

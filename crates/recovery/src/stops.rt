@@ -2,11 +2,12 @@
 ghost use Rattle.std.specs.Prelude.{◌≡◌, ℕ, ◌≤◌, min, length, List, Option, Some, None};
 ghost use Rattle.part_tree.specs.declared.plan.Patch.{Patch};
 ghost use Rattle.me_disk.specs.Disk.{Image};
-ghost use Rattle.edit_journal.specs.Journal.{Journal, all_bytes};
+ghost use Rattle.edit_journal.specs.Journal.{Journal};
 ghost use Rattle.edit_journal.specs.Settled.{Settles};
 ghost use Rattle.recovery.specs.Redo.{SettlesAlike};
 ghost use Rattle.recovery.specs.Stopped.{StoppedAt, last_of};
 ghost use Rattle.recovery.specs.Recovered.{bytes_to_redo};
+ghost use Rattle.part_tree.specs.Patches.{all_bytes};
 
 /// Any number of recoveries that are stopped, each begun on one of the images that the one before it left, leave what the first
 /// image stands for; an image stands for one file at most. A recovery writes the bytes of the journal's patches where the image

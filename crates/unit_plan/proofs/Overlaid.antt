@@ -3,11 +3,11 @@ use Rattle.std.proofs.Common.{◌≡◌, ◌∙◌, ◌⊎◌, ℕ, ◌+◌, ◌
 use Rattle.std.specs.List.{flat_map}
 use Rattle.std.proofs.lemmas.List.{drop-drop, drop_all, take_at, take-append-drop}
 use Rattle.part_tree.specs.declared.plan.Patch.{Patch}
-use Rattle.me_disk.specs.Calls.{overlay}
-use Rattle.edit_journal.specs.Settled.{lay, laid}
-use Rattle.edit_journal.specs.Journal.{all_bytes}
-use Rattle.edit_journal.specs.Journal as Journal
-use Rattle.carrier_model.specs.Room.{patch, patched, total}
+use Rattle.me_bytes.specs.Bytes.{overlay}
+use Rattle.part_tree.specs.Patches.{patched, laid, all_bytes}
+use Rattle.part_tree.specs.Patches as Patches
+use Rattle.carrier_model.specs.Room as Room
+use Rattle.carrier_model.specs.Room.{patch}
 use Rattle.carrier_model.specs.Order as Order
 use Rattle.container_model.specs.Splice.{Cut, splice, splice_from}
 use Rattle.container_model.proofs.Units.{take_past, drop_past}
@@ -37,14 +37,14 @@ spliced_length b len ks e h =
 
 -- ---- patches
 
-pub lay-append : (a b : List Patch) (y : List ℕ) → lay (a ++ b) y ≡ lay b (lay a y)
+pub lay-append : (a b : List Patch) (y : List ℕ) → patched (a ++ b) y ≡ patched b (patched a y)
 lay-append [] b y = refl
 lay-append (p ∷ a) b y = lay-append a b (overlay p.at p.bytes y)
 
 overlay_is : (at : ℕ) (w y : List ℕ) → overlay at w y ≡ take at y ++ (w ++ drop (at + length w) y)
 overlay_is at w y = append_assoc (take at y) w (drop (at + length w) y)
 
-lay_one : (at : ℕ) (b y : List ℕ) → lay (patch at b) y ≡ overlay at b y
+lay_one : (at : ℕ) (b y : List ℕ) → patched (patch at b) y ≡ overlay at b y
 lay_one at [] y = let z : at + 0 ≡ at = omega arith in sym (overlay_is at [] y ∙ ap (λ (k : ℕ). take at y ++ drop k y) z ∙ take-append-drop at y)
 lay_one at (x ∷ b) y = refl
 
@@ -82,7 +82,7 @@ kept_behind b k exact =
     add_comm m n = omega arith
 
 pub laid_from : (b x : List ℕ) (from : ℕ) (ks : List CutAt) → length x ≡ from → SpansAscend from ks (length b) → FitsIn (length b) ks
-    → (m : List ℕ) × (lay (flat_map patch_of ks) (x ++ drop from b) ≡ (x ++ splice_from from (drop from b) (map (cut_in b) ks)) ++ m)
+    → (m : List ℕ) × (patched (flat_map patch_of ks) (x ++ drop from b) ≡ (x ++ splice_from from (drop from b) (map (cut_in b) ks)) ++ m)
 laid_from b x from [] e h f = ([], sym (append-nil (x ++ drop from b)))
 laid_from b x from (k ∷ ks) e h f = go f.0 (λ y len. laid_from b y (k.span.at + k.span.len) ks len h.2 f.1)
   where
@@ -92,12 +92,12 @@ laid_from b x from (k ∷ ks) e h f = go f.0 (λ y len. laid_from b y (k.span.at
     front : List ℕ
     front = x ++ take (k.span.at - from) (drop from b)
 
-    first : lay (patch_of k ++ flat_map patch_of ks) (x ++ drop from b) ≡ lay (flat_map patch_of ks) (front ++ (k.bytes ++ drop (k.span.at + length k.bytes) b))
-    first = lay-append (patch_of k) (flat_map patch_of ks) (x ++ drop from b) ∙ ap (lay (flat_map patch_of ks)) (lay_one k.span.at k.bytes (x ++ drop from b) ∙ laid_over b x k.bytes from k.span.at e h.0)
+    first : patched (patch_of k ++ flat_map patch_of ks) (x ++ drop from b) ≡ patched (flat_map patch_of ks) (front ++ (k.bytes ++ drop (k.span.at + length k.bytes) b))
+    first = lay-append (patch_of k) (flat_map patch_of ks) (x ++ drop from b) ∙ ap (patched (flat_map patch_of ks)) (lay_one k.span.at k.bytes (x ++ drop from b) ∙ laid_over b x k.bytes from k.span.at e h.0)
 
     go : (IsExact k) ⊎ (EndsFile (length b) k × (ks ≡ []))
-        → ((y : List ℕ) → length y ≡ k.span.at + k.span.len → (m : List ℕ) × (lay (flat_map patch_of ks) (y ++ drop (k.span.at + k.span.len) b) ≡ (y ++ splice_from (k.span.at + k.span.len) (drop (k.span.at + k.span.len) b) (map (cut_in b) ks)) ++ m))
-        → (m : List ℕ) × (lay (patch_of k ++ flat_map patch_of ks) (x ++ drop from b) ≡ (x ++ splice_from from (drop from b) (cut_in b k ∷ map (cut_in b) ks)) ++ m)
+        → ((y : List ℕ) → length y ≡ k.span.at + k.span.len → (m : List ℕ) × (patched (flat_map patch_of ks) (y ++ drop (k.span.at + k.span.len) b) ≡ (y ++ splice_from (k.span.at + k.span.len) (drop (k.span.at + k.span.len) b) (map (cut_in b) ks)) ++ m))
+        → (m : List ℕ) × (patched (patch_of k ++ flat_map patch_of ks) (x ++ drop from b) ≡ (x ++ splice_from from (drop from b) (cut_in b k ∷ map (cut_in b) ks)) ++ m)
     go (inl exact) again =
         let kept = take k.keep (drop (next - k.keep) b) in
         let low = lost_low next (length b) ks h.2 in
@@ -105,7 +105,7 @@ laid_from b x from (k ∷ ks) e h f = go f.0 (λ y len. laid_from b y (k.span.at
         let long : length y ≡ next = omega (arith, e, exact, low, h.0, h.1, length-append front (k.bytes ++ kept), length-append k.bytes kept, length-append x (take (k.span.at - from) (drop from b)), length-take (k.span.at - from) (drop from b), length-drop from b, length-take k.keep (drop (next - k.keep) b), length-drop (next - k.keep) b) in
         let done = again y long in (
           done.0,
-          first ∙ ap (λ (z : List ℕ). lay (flat_map patch_of ks) (front ++ (k.bytes ++ z))) (kept_behind b k exact) ∙ ap (lay (flat_map patch_of ks)) (regroup front k.bytes kept (drop next b))
+          first ∙ ap (λ (z : List ℕ). patched (flat_map patch_of ks) (front ++ (k.bytes ++ z))) (kept_behind b k exact) ∙ ap (patched (flat_map patch_of ks)) (regroup front k.bytes kept (drop next b))
               ∙ done.1 ∙ ap (λ (z : List ℕ). z ++ done.0) (sym (step_splice b x from k (map (cut_in b) ks) h.0)),
         )
       where
@@ -122,7 +122,7 @@ laid_from b x from (k ∷ ks) e h f = go f.0 (λ y len. laid_from b y (k.span.at
         ∙ ap (λ (z : List ℕ). (front ++ (k.bytes ++ kept)) ++ z) no_rest ∙ append-nil (front ++ (k.bytes ++ kept)) ∙ ap (λ (z : List ℕ). front ++ (k.bytes ++ z)) no_kept ∙ ap (λ (z : List ℕ). front ++ z) (append-nil k.bytes)
         in (
           m,
-          first ∙ ap (λ (ps : List Patch). lay ps (front ++ (k.bytes ++ m))) none ∙ sym (append_assoc front k.bytes m) ∙ ap (λ (z : List ℕ). z ++ m) (sym whole),
+          first ∙ ap (λ (ps : List Patch). patched ps (front ++ (k.bytes ++ m))) none ∙ sym (append_assoc front k.bytes m) ∙ ap (λ (z : List ℕ). z ++ m) (sym whole),
         )
 
 -- The patches, laid over the file at its new length, are the file with the spans replaced.
@@ -135,11 +135,11 @@ laid_splices b len new ks e h f is =
 
 -- ---- the words of the two models
 
-pub lay_is_patched : (ps : List Patch) (b : List ℕ) → lay ps b ≡ patched ps b
+pub lay_is_patched : (ps : List Patch) (b : List ℕ) → patched ps b ≡ Room.patched ps b
 lay_is_patched [] b = refl
-lay_is_patched (p ∷ ps) b = lay_is_patched ps (overlay p.at p.bytes b) ∙ ap (patched ps) (overlay_is p.at p.bytes b)
+lay_is_patched (p ∷ ps) b = lay_is_patched ps (overlay p.at p.bytes b) ∙ ap (Room.patched ps) (overlay_is p.at p.bytes b)
 
-pub same_total : (ps : List Patch) → total ps ≡ all_bytes ps
+pub same_total : (ps : List Patch) → Room.total ps ≡ all_bytes ps
 same_total [] = refl
 same_total (p ∷ ps) = ap (λ (n : ℕ). length p.bytes + n) (same_total ps)
 
@@ -147,11 +147,11 @@ order_end : (from : ℕ) (ps : List Patch) (end : ℕ) → Order.InOrder from ps
 order_end from [] end h = h
 order_end from (p ∷ ps) end h = omega (arith, h.0, order_end (p.at + length p.bytes) ps end h.2)
 
-pub same_order : (from : ℕ) (ps : List Patch) (new : ℕ) → Order.InOrder from ps new → Journal.InOrder new from ps
+pub same_order : (from : ℕ) (ps : List Patch) (new : ℕ) → Order.InOrder from ps new → Patches.InOrder new from ps
 same_order from [] new h = tt
 same_order from (p ∷ ps) new h = (record { some = h.1; after = h.0; inside = order_end (p.at + length p.bytes) ps new h.2 }, same_order (p.at + length p.bytes) ps new h.2)
 
-pub same_touch : (q : ℕ) (ps : List Patch) → Order.InPatch q ps → Journal.Touches q ps
+pub same_touch : (q : ℕ) (ps : List Patch) → Order.InPatch q ps → Patches.Touches q ps
 same_touch q [] h = h
 same_touch q (p ∷ ps) (inl h) = inl h
 same_touch q (p ∷ ps) (inr h) = inr (same_touch q ps h)

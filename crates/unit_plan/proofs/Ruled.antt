@@ -3,7 +3,7 @@ use Rattle.std.proofs.Common.{◌≡◌, ◌∙◌, ◌⊎◌, ℕ, ◌+◌, ◌
 use Rattle.std.specs.List.{flat_map}
 use Rattle.part_tree.specs.declared.plan.Patch.{Patch}
 use Rattle.carrier_model.specs.Room.{patch}
-use Rattle.edit_journal.specs.Journal.{InOrder, Touches, Rules, all_bytes}
+use Rattle.part_tree.specs.Patches.{InOrder, Touches, Rules, all_bytes}
 use Rattle.unit_plan.specs.declared.cut.CutAt.{CutAt}
 use Rattle.unit_plan.specs.Cuts.{SpansAscend, FitsIn, IsExact, EndsFile, patch_of}
 use Rattle.unit_plan.specs.Sized.{gained, lost, IsTooMuch, spliced_len}

@@ -2,7 +2,7 @@
 use Rattle.std.proofs.Common.{◌≡◌, ◌∙◌, ℕ, ◌+◌, ◌-◌, ◌≤◌, ◌<◌, List, [], ◌∷◌, ◌++◌, length, map, take, drop, get_or, sym, ap, subst, arith, append_assoc}
 use Rattle.std.proofs.lemmas.List.{drop-drop, drop-take, drop-append-le, take-append-le, take-take, take_all, length-drop, length-take}
 use Rattle.part_tree.specs.declared.plan.Segment.{Segment}
-use Rattle.file_swap.specs.Plans.{AllInside, Inside, segment_len, total_len}
+use Rattle.part_tree.specs.Plans.{AllInside, Inside, segment_len, total_len}
 use Rattle.container_model.specs.Splice.{Ascend, Cut, end_of, splice, splice_from}
 use Rattle.unit_plan.specs.declared.cut.CutAt.{CutAt}
 use Rattle.unit_plan.specs.Cuts.{SpansAscend, cut_in}

@@ -3,7 +3,7 @@ use Rattle.std.specs.Prelude.{◌<◌, ◌⊎◌, ◌^◌, ℕ, ◌+◌, ◌-◌
 use Rattle.std.specs.Int.{w32, w64, to_le_bytes}
 use Rattle.part_tree.specs.declared.plan.Patch.{Patch}
 use Rattle.container_model.specs.Splice.{Cut}
-use Rattle.edit_journal.specs.Journal.{InOrder, all_bytes}
+use Rattle.part_tree.specs.Patches.{InOrder, all_bytes}
 use Rattle.unit_plan.specs.declared.cut.CutAt.{CutAt}
 
 -- the bytes that stand in place of all spans

@@ -1,7 +1,7 @@
 // The patches that make a new file in place.
 ghost use Rattle.std.specs.Prelude.{◌≡◌, ◌≤◌, ◌<◌, ◌^◌, length, IfOk, IfSome, IfNone};
 ghost use Rattle.std.specs.List.{flat_map};
-ghost use Rattle.edit_journal.specs.Journal.{Rules, all_bytes};
+ghost use Rattle.part_tree.specs.Patches.{Rules, all_bytes};
 ghost use Rattle.unit_plan.specs.Cuts.{FitsIn, SpansAscend, patch_of};
 ghost use Rattle.unit_plan.specs.Sized.{IsTooMuch, spliced_len};
 

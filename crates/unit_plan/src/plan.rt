@@ -1,8 +1,7 @@
 // The plan that replaces spans of a file.
 ghost use Rattle.std.specs.Prelude.{◌≡◌, ◌<◌, ◌^◌, ℕ, List, length, map, true, IfOk};
 ghost use Rattle.std.specs.List.{flat_map};
-ghost use Rattle.file_swap.specs.Plans.{Belongs, CanRun};
-ghost use Rattle.file_swap.specs.Steps.{applied};
+ghost use Rattle.part_tree.specs.Plans.{Belongs, CanRun, applied};
 ghost use Rattle.container_model.specs.Splice.{splice};
 ghost use Rattle.unit_plan.specs.Cuts.{FitsIn, SpansAscend, cut_in, patch_of};
 ghost use Rattle.unit_plan.specs.Sized.{spliced_len};

@@ -1,8 +1,7 @@
 // The segments of a new file.
 ghost use Rattle.std.specs.Prelude.{◌≡◌, ◌≤◌, ◌<◌, ◌+◌, ◌-◌, ◌++◌, ◌^◌, ℕ, List, length, map, take, drop, IfOk, OnOk};
 ghost use Rattle.std.specs.List.{flat_map};
-ghost use Rattle.file_swap.specs.Plans.{AllInside, total_len};
-ghost use Rattle.file_swap.specs.Steps.{segment_bytes};
+ghost use Rattle.part_tree.specs.Plans.{AllInside, total_len, segment_bytes};
 ghost use Rattle.container_model.specs.Splice.{splice};
 ghost use Rattle.unit_plan.specs.Cuts.{SpansAscend, cut_in};
 ghost use Rattle.unit_plan.specs.Sized.{spliced_len};

@@ -10,9 +10,9 @@ use Rattle.part_tree.specs.declared.plan.Plan.TheVariants.{InPlace, Rewrite}
 use Rattle.field_model.specs.Update.{raw_items}
 use Rattle.container_model.proofs.Codec.{IsBytes}
 use Rattle.carrier_model.specs.Large.{Size, limited, is_above, first_above}
-use Rattle.carrier_model.specs.Room.{total, units_fit}
-use Rattle.edit_journal.specs.Journal.{all_bytes}
-use Rattle.file_swap.specs.Plans.{CanRun}
+use Rattle.carrier_model.specs.Room.{units_fit}
+use Rattle.part_tree.specs.Patches.{all_bytes}
+use Rattle.part_tree.specs.Plans.{CanRun}
 use Rattle.wave_model.specs.Wave.{is_big, is_wide, wave_of, form_kind, spell_wave}
 use Rattle.wave_model.specs.Fields.{fields}
 use Rattle.wave_model.specs.Edited.{Supported}
@@ -102,8 +102,8 @@ module _ (b : List ℕ) (e : List EditItem) (bytes : IsBytes b) (sup : Supported
       → (p : Plan) → CanRun p → Units.IsPlanOf u.fits f.len new (flat_map patch_of (framed f n u.cuts.items)) p → IsForm b e p
   form_told n new sum is long small (InPlace old m qs) can h =
       let ps : qs ≡ patches b e = h.3 ∙ patches_told b e bytes sup f fr u comes st n sum is h.0 in
-      let bytes_few : total (patches b e) ≤ 2 ^ 24 = omega (arith, can.small, same_total (patches b e), ap all_bytes ps) in (
-        both_true (units_fit (ends_file (wave_of b)) (pieces_of (wave_of b) (raw_items (fields b) e))) (leb (total (patches b e)) (2 ^ 24)) (sym (fits_are b e bytes sup f fr u comes st) ∙ h.0) (le-leb (total (patches b e)) (2 ^ 24) bytes_few),
+      let bytes_few : all_bytes (patches b e) ≤ 2 ^ 24 = omega (arith, can.small, same_total (patches b e), ap all_bytes ps) in (
+        both_true (units_fit (ends_file (wave_of b)) (pieces_of (wave_of b) (raw_items (fields b) e))) (leb (all_bytes (patches b e)) (2 ^ 24)) (sym (fits_are b e bytes sup f fr u comes st) ∙ h.0) (le-leb (all_bytes (patches b e)) (2 ^ 24) bytes_few),
         h.1 ∙ fr.len,
         h.2 ∙ long,
         ps,
@@ -112,14 +112,14 @@ module _ (b : List ℕ) (e : List EditItem) (bytes : IsBytes b) (sup : Supported
     where
       by : Room b e → (u.fits ≡ false) ⊎ IsTooMuch (flat_map patch_of (framed f n u.cuts.items)) → ⊥
       by room (inl unfit) =
-          let p = and_parts (units_fit (ends_file (wave_of b)) (pieces_of (wave_of b) (raw_items (fields b) e))) (leb (total (patches b e)) (2 ^ 24)) room in
+          let p = and_parts (units_fit (ends_file (wave_of b)) (pieces_of (wave_of b) (raw_items (fields b) e))) (leb (all_bytes (patches b e)) (2 ^ 24)) room in
           let fit : u.fits ≡ true = fits_are b e bytes sup f fr u comes st ∙ p.0 in
           absurd cc
       by room (inr (inl many)) =
-          let p = and_parts (units_fit (ends_file (wave_of b)) (pieces_of (wave_of b) (raw_items (fields b) e))) (leb (total (patches b e)) (2 ^ 24)) room in
+          let p = and_parts (units_fit (ends_file (wave_of b)) (pieces_of (wave_of b) (raw_items (fields b) e))) (leb (all_bytes (patches b e)) (2 ^ 24)) room in
           let ps = patches_told b e bytes sup f fr u comes st n sum is (fits_are b e bytes sup f fr u comes st ∙ p.0) in
           absurd (omega (arith, many, ap (λ (x : List Patch). length x) ps, few_patches b bytes sup e small))
       by room (inr (inr much)) =
-          let p = and_parts (units_fit (ends_file (wave_of b)) (pieces_of (wave_of b) (raw_items (fields b) e))) (leb (total (patches b e)) (2 ^ 24)) room in
+          let p = and_parts (units_fit (ends_file (wave_of b)) (pieces_of (wave_of b) (raw_items (fields b) e))) (leb (all_bytes (patches b e)) (2 ^ 24)) room in
           let ps = patches_told b e bytes sup f fr u comes st n sum is (fits_are b e bytes sup f fr u comes st ∙ p.0) in
-          absurd (omega (arith, much, ap all_bytes ps, same_total (patches b e), leb-true (total (patches b e)) (2 ^ 24) p.1))
+          absurd (omega (arith, much, ap all_bytes ps, same_total (patches b e), leb-true (all_bytes (patches b e)) (2 ^ 24) p.1))

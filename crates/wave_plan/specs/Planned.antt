@@ -9,8 +9,7 @@ use Rattle.field_model.specs.Update.{raw_items}
 use Rattle.container_model.specs.Chunk.{Chunk}
 use Rattle.container_model.specs.Units.{Cell}
 use Rattle.carrier_model.specs.Large.{Size, limited, first_above}
-use Rattle.file_swap.specs.Plans.{Belongs}
-use Rattle.file_swap.specs.Steps.{applied}
+use Rattle.part_tree.specs.Plans.{Belongs, applied}
 use Rattle.wave_model.specs.Wave.{wave_of, cells_of}
 use Rattle.wave_model.specs.Fields.{is_info, bodies, fields}
 use Rattle.wave_model.specs.Carry.{steps, carried}

@@ -3,7 +3,7 @@ ghost use Rattle.std.specs.Prelude.{◌≡◌, ◌≤◌, ◌<◌, ◌+◌, ◌-
 ghost use Rattle.me_bytes.specs.Bytes.{IsBytes};
 ghost use Rattle.part_tree.specs.declared.field.EditItem.{EditItem};
 ghost use Rattle.carrier_model.specs.Large.{first_above, limited};
-ghost use Rattle.file_swap.specs.Plans.{Belongs, CanRun};
+ghost use Rattle.part_tree.specs.Plans.{Belongs, CanRun};
 ghost use Rattle.unit_plan.specs.Sized.{spliced_len};
 ghost use Rattle.wave_model.specs.Edited.{Supported};
 ghost use Rattle.wave_plan.specs.Frame.{IsFrame};

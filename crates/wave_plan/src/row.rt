@@ -5,7 +5,7 @@ ghost use Rattle.me_disk.specs.Causes.{Rose};
 ghost use Rattle.me_disk.specs.Steps.{ReadsOnly};
 ghost use Rattle.me_disk.specs.Holds.{Holds};
 ghost use Rattle.part_tree.specs.declared.field.EditItem.{EditItem};
-ghost use Rattle.file_swap.specs.Plans.{Belongs, CanRun};
+ghost use Rattle.part_tree.specs.Plans.{Belongs, CanRun};
 ghost use Rattle.unit_plan.specs.Shapes.{shape_of};
 ghost use Rattle.unit_plan.specs.Places.{Follow, shape_in};
 ghost use Rattle.wave_model.specs.Wave.{wave_of};

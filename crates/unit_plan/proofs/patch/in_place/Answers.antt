@@ -1,6 +1,6 @@
 use Rattle.std.proofs.Common.{◌≡◌, ◌≤◌, ◌^◌, length}
 use Rattle.std.specs.List.{flat_map}
-use Rattle.edit_journal.specs.Journal.{all_bytes}
+use Rattle.part_tree.specs.Patches.{all_bytes}
 use Rattle.unit_plan.specs.Cuts.{patch_of}
 use Rattle.unit_plan.proofs.Ruled.{keeps_rules}
 use Rattle.unit_plan.proofs.patch.in_place.Goals as goal

@@ -1,6 +1,6 @@
 use Rattle.std.proofs.Common.{◌≡◌, ◌≤◌, ◌^◌, ◌++◌, drop, length}
 use Rattle.std.specs.List.{flat_map}
-use Rattle.edit_journal.specs.Journal.{all_bytes}
+use Rattle.part_tree.specs.Patches.{all_bytes}
 use Rattle.unit_plan.specs.Cuts.{patch_of}
 use Rattle.unit_plan.proofs.patch.patches_of.Given as goal
 

@@ -1,7 +1,7 @@
 use Rattle.std.proofs.Common.{ap, ◌∙◌, ◌≡◌, List}
 use Rattle.std.specs.List.{flat_map}
 use Rattle.part_tree.specs.declared.plan.Patch.{Patch}
-use Rattle.edit_journal.specs.Settled.{laid}
+use Rattle.part_tree.specs.Patches.{laid}
 use Rattle.unit_plan.specs.Cuts.{FitsIn, patch_of}
 use Rattle.unit_plan.proofs.Overlaid.{laid_splices}
 use Rattle.unit_plan.proofs.plan.plan_of.Goals as goal

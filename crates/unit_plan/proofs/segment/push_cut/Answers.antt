@@ -1,6 +1,6 @@
 use Rattle.std.proofs.Common.{arith, ap, ◌∙◌, ◌≡◌, ◌++◌, ℕ, List, append_assoc}
 use Rattle.std.specs.List.{flat_map}
-use Rattle.file_swap.specs.Steps.{segment_bytes}
+use Rattle.part_tree.specs.Plans.{segment_bytes}
 use Rattle.unit_plan.proofs.segment.push_cut.Goals as goal
 
 three : (old one two new a b c d : List ℕ) → one ≡ old ++ a → two ≡ one ++ d → d ≡ b → new ≡ two ++ c → new ≡ old ++ (a ++ (b ++ c))

@@ -1,5 +1,5 @@
 use Rattle.std.proofs.Common.{ap, ◌∙◌, ◌+◌, ℕ, List, length}
-use Rattle.file_swap.specs.Plans.{total_len}
+use Rattle.part_tree.specs.Plans.{total_len}
 use Rattle.unit_plan.proofs.Spliced.{total_more, inside_more}
 use Rattle.unit_plan.proofs.segment.push_literal.Goals as goal
 

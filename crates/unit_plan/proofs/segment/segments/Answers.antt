@@ -1,7 +1,6 @@
 use Rattle.std.proofs.Common.{arith, ap, sym, ◌∙◌, ◌≡◌, ◌+◌, ◌-◌, ◌∷◌, ◌++◌, List, map, drop}
 use Rattle.std.specs.List.{flat_map}
-use Rattle.file_swap.specs.Plans.{total_len}
-use Rattle.file_swap.specs.Steps.{segment_bytes}
+use Rattle.part_tree.specs.Plans.{total_len, segment_bytes}
 use Rattle.container_model.specs.Splice.{splice_from}
 use Rattle.unit_plan.specs.declared.cut.CutAt.{CutAt}
 use Rattle.unit_plan.specs.Cuts.{SpansAscend, cut_in}

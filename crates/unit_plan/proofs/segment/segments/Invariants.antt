@@ -1,7 +1,6 @@
 use Rattle.std.proofs.Common.{◌≡◌, ◌≤◌, ◌+◌, ◌-◌, ◌++◌, ℕ, List, map, drop, length}
 use Rattle.std.specs.List.{flat_map}
-use Rattle.file_swap.specs.Plans.{AllInside, total_len}
-use Rattle.file_swap.specs.Steps.{segment_bytes}
+use Rattle.part_tree.specs.Plans.{AllInside, total_len, segment_bytes}
 use Rattle.container_model.specs.Splice.{splice, splice_from}
 use Rattle.unit_plan.specs.Cuts.{SpansAscend, cut_in}
 use Rattle.unit_plan.specs.Sized.{spliced_len}

@@ -1,8 +1,9 @@
 use Rattle.std.proofs.Common.{◌≡◌, ◌-◌}
 use Rattle.me_disk.specs.Disk.{Leaves}
-use Rattle.file_swap.specs.Steps.{calls, applied}
+use Rattle.file_swap.specs.Steps.{calls}
 use Rattle.file_swap.specs.Midway.{SettlesEither}
 use Rattle.file_swap.specs.Swap.{Underway}
+use Rattle.part_tree.specs.Plans.{applied}
 use Rattle.file_swap.proofs.Ends.{HasWritten}
 use Rattle.file_swap.proofs.swapping.Swap.run.Given as goal
 

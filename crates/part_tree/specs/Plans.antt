@@ -1,10 +1,11 @@
--- Which plans can be run, and which are plans for a file.
-use Rattle.std.specs.Prelude.{◌≡◌, ℕ, ◌+◌, ◌≤◌, ◌<◌, ◌^◌, List, [], ◌∷◌, length, ⊤}
+-- What a plan makes of a file, which plans can be run, and which are plans for a file (this project's own).
+use Rattle.std.specs.Prelude.{◌≡◌, ℕ, ◌+◌, ◌≤◌, ◌<◌, ◌^◌, List, [], ◌∷◌, length, take, drop, ⊤}
+use Rattle.std.specs.List.{flat_map}
 use Rattle.part_tree.specs.declared.plan.Segment.{Segment}
 use Rattle.part_tree.specs.declared.plan.Segment.TheVariants.{Copy, Literal}
 use Rattle.part_tree.specs.declared.plan.Plan.{Plan}
 use Rattle.part_tree.specs.declared.plan.Plan.TheVariants.{InPlace, Rewrite}
-use Rattle.edit_journal.specs.Journal.{Rules}
+use Rattle.part_tree.specs.Patches.{Rules, laid}
 
 -- how many bytes a segment makes
 abbrev pub segment_len : Segment → ℕ
@@ -45,3 +46,15 @@ IsFor (Rewrite new segments) o = AllInside o segments × (length o < 2 ^ 63)
 pub record Belongs (p : Plan) (o : List ℕ) : Type 0 where
   pub can : CanRun p
   pub file : IsFor p o
+
+-- ---- the new file
+
+-- what a segment makes of a file
+abbrev pub segment_bytes : List ℕ → Segment → List ℕ
+segment_bytes o (Copy s) = take s.len (drop s.at o)
+segment_bytes o (Literal b) = b
+
+-- what the plan makes of a file
+abbrev pub applied : Plan → List ℕ → List ℕ
+applied (InPlace old new ps) o = laid new ps o
+applied (Rewrite new segments) o = flat_map (segment_bytes o) segments
