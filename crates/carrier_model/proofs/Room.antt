@@ -5,12 +5,14 @@ use Rattle.std.specs.Int.{w32, to_le_bytes}
 use Rattle.std.specs.List.{flat_map}
 use Rattle.std.proofs.lemmas.Bool.{and_parts, cond-true, cond-false, eqb-true, le-leb, leb-true, lt-leb, ltb-true}
 use Rattle.std.proofs.lemmas.List.{append-nil, drop-append-le, drop_all, length-append, length-drop, take_at, take-append-drop}
+use Rattle.me_bytes.specs.Bytes.{overlay}
 use Rattle.part_tree.specs.declared.plan.Patch.{Patch}
+use Rattle.part_tree.specs.Patches.{all_bytes, patched}
 use Rattle.container_model.specs.Chunk.{Chunk, spell, spell_all}
 use Rattle.container_model.specs.Units.{Cell, kept, gap, edited, Piece, copied, replaced, Slot, shut, begun, is_empty, lacks_pad, closed, kept_next, padded, units, old_bytes, lead_pad, unit_bytes, Fill, lay}
 use Rattle.container_model.proofs.Units.{BringsPad, spell_all-append, drop_past}
 use Rattle.carrier_model.specs.Info.{made, fill_by, riff_fill}
-use Rattle.carrier_model.specs.Room.{leaves_padding, fits_slot, units_fit, patch, unit_patch, unit_patches, overlay, patched}
+use Rattle.carrier_model.specs.Room.{leaves_padding, fits_slot, units_fit, patch, unit_patch, unit_patches}
 
 -- ---- a unit that fits and doesn't end the file
 
@@ -101,17 +103,30 @@ pub patched-append : (a b : List Patch) (y : List ℕ) → patched (a ++ b) y �
 patched-append [] b y = refl
 patched-append (p ∷ a) b y = patched-append a b (overlay p.at p.bytes y)
 
+-- bytes laid over others, by what stands before them and behind them
+pub overlay_is : (at : ℕ) (w y : List ℕ) → overlay at w y ≡ take at y ++ (w ++ drop (at + length w) y)
+overlay_is at w y = append_assoc (take at y) w (drop (at + length w) y)
+
 pub patched_one : (at : ℕ) (b y : List ℕ) → patched (patch at b) y ≡ overlay at b y
-patched_one at [] y = let z : at + 0 ≡ at = omega arith in sym (ap (λ (k : ℕ). take at y ++ drop k y) z ∙ take-append-drop at y)
+patched_one at [] y = let z : at + 0 ≡ at = omega arith in sym (overlay_is at [] y ∙ ap (λ (k : ℕ). take at y ++ drop k y) z ∙ take-append-drop at y)
 patched_one at (x ∷ b) y = refl
 
 -- bytes laid behind others
-laid_behind : (at : ℕ) (x b y : List ℕ) → length x ≡ at → overlay at b (x ++ y) ≡ x ++ (b ++ drop (length b) y)
+pub laid_behind : (at : ℕ) (x b y : List ℕ) → length x ≡ at → overlay at b (x ++ y) ≡ x ++ (b ++ drop (length b) y)
 laid_behind at x b y e =
     let front = take_at x y at e in
     let k : (at + length b) - length x ≡ length b = omega (arith, e) in
     let back : drop (at + length b) (x ++ y) ≡ drop (length b) y = drop_past x y (at + length b) (omega (arith, e)) ∙ ap (λ (n : ℕ). drop n y) k in
-    ap (λ (z : List ℕ). z ++ (b ++ drop (at + length b) (x ++ y))) front ∙ ap (λ (z : List ℕ). x ++ (b ++ z)) back
+    overlay_is at b (x ++ y) ∙ ap (λ (z : List ℕ). z ++ (b ++ drop (at + length b) (x ++ y))) front ∙ ap (λ (z : List ℕ). x ++ (b ++ z)) back
+
+-- how many bytes patches have together
+pub all_bytes-append : (a b : List Patch) → all_bytes (a ++ b) ≡ all_bytes a + all_bytes b
+all_bytes-append [] b = omega arith
+all_bytes-append (p ∷ a) b = omega (arith, all_bytes-append a b)
+
+pub patch_bytes : (at : ℕ) (b : List ℕ) → all_bytes (patch at b) ≡ length b
+patch_bytes at [] = refl
+patch_bytes at (x ∷ b) = omega arith
 
 module _ (ends : Bool) where
   fill : Fill
