@@ -12,11 +12,11 @@ use Rattle.container_model.proofs.Places.{old_length, Before}
 use Rattle.container_model.proofs.Splice.{before_lost, behind_lost}
 use Rattle.container_model.proofs.Units.{BringsPad, spell_all-append, units_old, units_bring}
 use Rattle.carrier_model.specs.Info.{riff_fill, is_type, list_run}
-use Rattle.carrier_model.specs.Room.{fits_slot, units_fit, unit_patches, patched}
+use Rattle.carrier_model.specs.Room.{fits_slot, units_fit, unit_patches}
 use Rattle.part_tree.specs.declared.plan.Patch.{Patch}
-use Rattle.carrier_model.specs.Order.{InOrder, InPatch}
-use Rattle.carrier_model.proofs.Order.{order_low, order_patch, in_behind, units_in_order, units_cover}
-use Rattle.carrier_model.proofs.Room.{LastOnly, last_units, patched-append, patched_one, fitting_length, units_patched}
+use Rattle.part_tree.specs.Patches.{InOrder, Touches, patched}
+use Rattle.carrier_model.proofs.Order.{order_low, order_patch, touches_behind, units_in_order, units_cover}
+use Rattle.carrier_model.proofs.Room.{LastOnly, last_units, overlay_is, patched-append, patched_one, fitting_length, units_patched}
 use Rattle.avi_model.specs.Avi.{Avi, inner, behind, spell_avi}
 use Rattle.avi_model.specs.NewFile.{Items, is_none, ends_file, new_cells, new_children, new_pad, pad_after, laid, pad_cut, edit_cuts}
 use Rattle.avi_model.proofs.Read.{others_place}
@@ -98,10 +98,6 @@ gained_before (c ∷ cs) more p h = go (cases_lt p (end_of c)) (gained_before cs
 none_is : (x : List ℕ) → is_none x ≡ true → x ≡ []
 none_is [] e = refl
 none_is (y ∷ x) e = absurd cc
-
-order_high : (from : ℕ) (ps : List Patch) (end high : ℕ) → end ≤ high → InOrder from ps end → InOrder from ps high
-order_high from [] end high l h = omega arith
-order_high from (p ∷ ps) end high l h = (h.0, h.1, order_high (p.at + length p.bytes) ps end high l h.2)
 
 module _ (a : Avi) (e : Items) (fits : units_fit (ends_file a) (units shut (new_cells a e)) ≡ true) where
   abbrev ps : List Piece
@@ -207,7 +203,7 @@ module _ (a : Avi) (e : Items) (fits : units_fit (ends_file a) (units shut (new_
         where
           side : (t : Bool) → eqb n k ≡ t → patched (cond t [] (Rattle.carrier_model.specs.Room.patch 4 (to_le_bytes w32 k))) (((codes "RIFF" ++ to_le_bytes w32 n) ++ codes "AVI ") ++ rest) ≡ ((codes "RIFF" ++ to_le_bytes w32 k) ++ codes "AVI ") ++ rest
           side true t = ap (λ (m : ℕ). ((codes "RIFF" ++ to_le_bytes w32 m) ++ codes "AVI ") ++ rest) (eqb-true n k t)
-          side false t = patched_one 4 (to_le_bytes w32 k) (((codes "RIFF" ++ to_le_bytes w32 n) ++ codes "AVI ") ++ rest)
+          side false t = let y = ((codes "RIFF" ++ to_le_bytes w32 n) ++ codes "AVI ") ++ rest in patched_one 4 (to_le_bytes w32 k) y ∙ overlay_is 4 (to_le_bytes w32 k) y
 
   old_long : length (spell_avi a) ≡ 12 + (length (flat_map old_bytes ps) + length rest)
   old_long = let n = length (inner a.children a.left) in ap length old_is ∙ omega (arith, length-append (front n) (flat_map old_bytes ps ++ rest), length-append (flat_map old_bytes ps) rest)
@@ -216,27 +212,31 @@ module _ (a : Avi) (e : Items) (fits : units_fit (ends_file a) (units shut (new_
   new_long = let n = length (inner (new_children a e) a.left) in ap length new_is ∙ omega (arith, length-append (front n) (spell_all (new_children a e) ++ rest), length-append (spell_all (new_children a e)) rest)
 
   -- The patches are in order and lie in the new file.
-  pub ordered : InOrder 0 (Rattle.avi_model.specs.Room.patches_of a e) (length (spell_avi (laid a e)))
+  pub ordered : InOrder (length (spell_avi (laid a e))) 0 (Rattle.avi_model.specs.Room.patches_of a e)
   ordered =
       let us = unit_patches (riff_fill (ends_file a)) 12 ps in
-      size_first (length (inner a.children a.left)) (length (inner (new_children a e) a.left)) us (length (spell_avi (laid a e)))
-      (order_high 12 us (12 + length (spell_all (new_children a e))) (length (spell_avi (laid a e))) (omega (arith, new_long)) (units_in_order (ends_file a) 12 12 ps (omega arith) only_last brings fits))
+      let long = length (spell_avi (laid a e)) in
+      let inside : 12 + length (spell_all (new_children a e)) ≤ long = omega (arith, new_long) in
+      size_first (length (inner a.children a.left)) (length (inner (new_children a e) a.left)) long us (omega (arith, inside)) (units_in_order (ends_file a) long 12 12 ps (omega arith) inside only_last brings fits)
     where
-      size_first : (n k : ℕ) (us : List Patch) (end : ℕ) → InOrder 12 us end → InOrder 0 (Rattle.avi_model.specs.Room.size_patch n k ++ us) end
-      size_first n k us end h = side (eqb n k)
+      size_first : (n k new : ℕ) (us : List Patch) → 12 ≤ new → InOrder new 12 us → InOrder new 0 (Rattle.avi_model.specs.Room.size_patch n k ++ us)
+      size_first n k new us r h = side (eqb n k)
         where
-          side : (t : Bool) → InOrder 0 (cond t [] (Rattle.carrier_model.specs.Room.patch 4 (to_le_bytes w32 k)) ++ us) end
-          side true = order_low 0 12 us end (omega arith) h
-          side false = order_patch 0 4 (to_le_bytes w32 k) us end (omega arith) (order_low 8 12 us end (omega arith) h)
+          inside : 8 ≤ new
+          inside = omega (arith, r)
+
+          side : (t : Bool) → InOrder new 0 (cond t [] (Rattle.carrier_model.specs.Room.patch 4 (to_le_bytes w32 k)) ++ us)
+          side true = order_low new 0 12 us (omega arith) h
+          side false = order_patch new 0 4 (to_le_bytes w32 k) us (omega arith) inside (order_low new 8 12 us (omega arith) h)
 
   -- They cover what the file gains.
-  pub covered : (q : ℕ) → length (spell_avi a) ≤ q → q < length (spell_avi (laid a e)) → InPatch q (Rattle.avi_model.specs.Room.patches_of a e)
+  pub covered : (q : ℕ) → length (spell_avi a) ≤ q → q < length (spell_avi (laid a e)) → Touches q (Rattle.avi_model.specs.Room.patches_of a e)
   covered q low high = go (ends_file a) refl
     where
-      go : (t : Bool) → ends_file a ≡ t → InPatch q (Rattle.avi_model.specs.Room.patches_of a e)
+      go : (t : Bool) → ends_file a ≡ t → Touches q (Rattle.avi_model.specs.Room.patches_of a e)
       go true t =
           let none : length rest ≡ 0 = ap length (nothing_behind t) in
-          in_behind q (Rattle.avi_model.specs.Room.size_patch (length (inner a.children a.left)) (length (inner (new_children a e) a.left))) (unit_patches (riff_fill (ends_file a)) 12 ps)
+          touches_behind q (Rattle.avi_model.specs.Room.size_patch (length (inner a.children a.left)) (length (inner (new_children a e) a.left))) (unit_patches (riff_fill (ends_file a)) 12 ps)
           (units_cover (ends_file a) 12 ps q only_last brings fits (omega (arith, low, old_long, none)) (omega (arith, high, new_long, none)))
       go false t =
           let long = fitting_length (ends_file a) t ps brings fits in
