@@ -5,7 +5,7 @@ use Rattle.std.proofs.lemmas.List.{drop-drop, drop_all, take_at, take-append-dro
 use Rattle.part_tree.specs.declared.plan.Patch.{Patch}
 use Rattle.me_bytes.specs.Bytes.{overlay}
 use Rattle.part_tree.specs.Patches.{patched, laid, all_bytes}
-use Rattle.carrier_model.proofs.Room.{overlay_is, patched-append, patched_one}
+use Rattle.carrier_model.proofs.Patches.{overlay_is, patched-append, patched_one}
 use Rattle.container_model.specs.Splice.{Cut, splice, splice_from}
 use Rattle.container_model.proofs.Units.{take_past, drop_past}
 use Rattle.unit_plan.specs.declared.cut.CutAt.{CutAt}

@@ -3,8 +3,7 @@ use Rattle.std.proofs.Common.{◌≡◌, ◌∙◌, ◌⊎◌, ℕ, ◌+◌, ◌
 use Rattle.std.specs.List.{flat_map}
 use Rattle.part_tree.specs.declared.plan.Patch.{Patch}
 use Rattle.carrier_model.specs.Room.{patch}
-use Rattle.carrier_model.proofs.Room.{all_bytes-append, patch_bytes}
-use Rattle.carrier_model.proofs.Order.{order_low, order_patch, touches_behind, touches_patch}
+use Rattle.carrier_model.proofs.Patches.{all_bytes-append, patch_bytes, order_patch, touches_behind, touches_patch}
 use Rattle.part_tree.specs.Patches.{InOrder, Touches, Rules, all_bytes}
 use Rattle.unit_plan.specs.declared.cut.CutAt.{CutAt}
 use Rattle.unit_plan.specs.Cuts.{SpansAscend, FitsIn, IsExact, EndsFile, patch_of}

@@ -14,7 +14,9 @@ use Rattle.container_model.specs.Units.{shut, old_bytes}
 use Rattle.container_model.proofs.Codec.{IsBytes}
 use Rattle.container_model.proofs.Units.{BringsPad, units_old, units_bring}
 use Rattle.carrier_model.specs.Room.{units_fit, patch, unit_patches}
-use Rattle.carrier_model.proofs.Room.{LastOnly, last_units, overlay_is, patched-append, patched_one, fitting_length, units_patched}
+use Rattle.carrier_model.proofs.Patches.{overlay_is, patched-append, patched_one, order_low, order_patch, touches_behind}
+use Rattle.carrier_model.proofs.Fitted.{AllFit, LastOnly, last_units, fitting_length, units_patched, units_in_order, units_cover}
+use Rattle.carrier_model.proofs.Room.{riff_fits}
 use Rattle.wave_model.specs.Wave.{is_big, Wave, wave_of, inner, spell_wave, cells_of}
 use Rattle.wave_model.specs.Fields.{fields}
 use Rattle.wave_model.specs.Carry.{steps, carried}
@@ -22,7 +24,6 @@ use Rattle.wave_model.specs.New.{is_nil, ends_file, fill_of, pieces_of, new_chil
 use Rattle.wave_model.specs.Edited.{Supported}
 use Rattle.wave_model.specs.Room.{size_patch, patches_in, patches, has_room, Room}
 use Rattle.carrier_model.specs.Order.{SoundPatches}
-use Rattle.carrier_model.proofs.Order.{order_low, order_patch, touches_behind, units_in_order, units_cover}
 use Rattle.wave_model.proofs.Steps.{was_carried}
 use Rattle.wave_model.proofs.Cells.{was_cells}
 use Rattle.wave_model.proofs.Again.{field_of, FormFine, IsForm, spelled, field_len}
@@ -165,7 +166,7 @@ module _ (o : List ℕ) (bytes : IsBytes o) (sup : Supported o) (e : List RawIte
           let q = and_parts (is_nil (wave_of o).pad) (is_nil (wave_of o).tail) p.1 in
           ap (λ (x : List ℕ). (wave_of o).left ++ (x ++ (wave_of o).tail)) (gone (eqb (length (inner (wave_of o))) (new_size (wave_of o) e)) (none (wave_of o).tail q.1) (none (wave_of o).pad q.0))
       go false t =
-          let len = fitting_length (ends_file (wave_of o)) t (pieces_of (wave_of o) e) (units_bring shut (carried (steps e) (cells_of (wave_of o))) tt) fit in
+          let len = fitting_length (fill_of (wave_of o)) (ends_file (wave_of o)) t (pieces_of (wave_of o) e) (units_bring shut (carried (steps e) (cells_of (wave_of o))) tt) (riff_fits (ends_file (wave_of o)) (pieces_of (wave_of o) e) fit) in
           let same : length (inner (wave_of o)) ≡ new_size (wave_of o) e
           = omega (arith, len, ap length old_is, length-append (spell_all (wave_of o).ds64) (spell_all (wave_of o).children ++ (wave_of o).left), length-append (spell_all (wave_of o).children) (wave_of o).left, length-append (spell_all (wave_of o).ds64) (spell_all (new_children (wave_of o) e) ++ (wave_of o).left), length-append (spell_all (new_children (wave_of o) e)) (wave_of o).left) in
           ap (λ (x : List ℕ). (wave_of o).left ++ (x ++ (wave_of o).tail)) (idle (length (inner (wave_of o))) (new_size (wave_of o) e) same)
@@ -195,7 +196,7 @@ module _ (o : List ℕ) (bytes : IsBytes o) (sup : Supported o) (e : List RawIte
       let ps = pieces_of v e in
       let y = flat_map old_bytes ps ++ r in
       let us = unit_patches (fill_of v) (children_at v) ps in
-      let done = units_patched (ends_file v) (children_at v) (front v (new_size v e)) ps r front_len (last_units shut (carried (steps e) (cells_of v))) (units_bring shut (carried (steps e) (cells_of v)) tt) fit (λ t. nothing_behind room t) in (
+      let done = units_patched (fill_of v) (ends_file v) (children_at v) (front v (new_size v e)) ps r front_len (last_units shut (carried (steps e) (cells_of v))) (units_bring shut (carried (steps e) (cells_of v)) tt) (riff_fits (ends_file v) ps fit) (λ t. nothing_behind room t) in (
         done.0,
         patched-append (size_patch v.form (length (inner v)) (new_size v e)) us o
             ∙ ap (patched us) (ap (patched (size_patch v.form (length (inner v)) (new_size v e))) (old_front y (ap (λ (z : List ℕ). z ++ r) (sym old_is))) ∙ front_patched y)
@@ -203,8 +204,8 @@ module _ (o : List ℕ) (bytes : IsBytes o) (sup : Supported o) (e : List RawIte
       )
 
 module _ (o : List ℕ) (bytes : IsBytes o) (sup : Supported o) (e : List RawItem) (room : has_room (wave_of o) e ≡ true) where
-  fit : units_fit (ends_file (wave_of o)) (pieces_of (wave_of o) e) ≡ true
-  fit = (and_parts (units_fit (ends_file (wave_of o)) (pieces_of (wave_of o) e)) (leb (all_bytes (patches_in (wave_of o) e)) (2 ^ 24)) room).0
+  fit : AllFit (fill_of (wave_of o)) (ends_file (wave_of o)) (pieces_of (wave_of o) e)
+  fit = riff_fits (ends_file (wave_of o)) (pieces_of (wave_of o) e) (and_parts (units_fit (ends_file (wave_of o)) (pieces_of (wave_of o) e)) (leb (all_bytes (patches_in (wave_of o) e)) (2 ^ 24)) room).0
 
   brings : BringsPad (pieces_of (wave_of o) e)
   brings = units_bring shut (carried (steps e) (cells_of (wave_of o))) tt
@@ -268,7 +269,7 @@ module _ (o : List ℕ) (bytes : IsBytes o) (sup : Supported o) (e : List RawIte
       let us = unit_patches (fill_of v) (children_at v) ps in
       let long = length (spell_wave (new_wave v e)) in
       let inside : children_at v + length (spell_all (new_children v e)) ≤ long = omega (arith, new_length) in
-      size_first v.form (old_form o bytes sup) ds64_long (length (inner v)) (new_size v e) long us (omega (arith, inside)) (units_in_order (ends_file v) long (children_at v) (children_at v) ps (omega arith) inside lasts brings fit)
+      size_first v.form (old_form o bytes sup) ds64_long (length (inner v)) (new_size v e) long us (omega (arith, inside)) (units_in_order (fill_of v) (ends_file v) long (children_at v) (children_at v) ps (omega arith) inside lasts brings fit)
 
   covered : (q : ℕ) → length o ≤ q → q < length (spell_wave (new_wave (wave_of o) e)) → Touches q (patches_in (wave_of o) e)
   covered q low high = go (ends_file (wave_of o)) refl
@@ -278,9 +279,9 @@ module _ (o : List ℕ) (bytes : IsBytes o) (sup : Supported o) (e : List RawIte
           let v = wave_of o in
           let none : length (v.left ++ (v.pad ++ v.tail)) ≡ 0 = ap length (nothing_behind o bytes sup e room t) in
           touches_behind q (size_patch v.form (length (inner v)) (new_size v e)) (unit_patches (fill_of v) (children_at v) (pieces_of v e))
-          (units_cover (ends_file v) (children_at v) (pieces_of v e) q lasts brings fit (omega (arith, low, old_length, none)) (omega (arith, high, new_length, none)))
+          (units_cover (fill_of v) (ends_file v) (children_at v) (pieces_of v e) q lasts brings fit (omega (arith, low, old_length, none)) (omega (arith, high, new_length, none)))
       go false t =
-          let len = fitting_length (ends_file (wave_of o)) t (pieces_of (wave_of o) e) brings fit in
+          let len = fitting_length (fill_of (wave_of o)) (ends_file (wave_of o)) t (pieces_of (wave_of o) e) brings fit in
           absurd (omega (arith, len, low, high, old_length, new_length))
 
 -- The patches of an edit that has room, laid over the old file at the new length, make the new file.
