@@ -1,17 +1,17 @@
 -- Where every unit fits its slot, no place moves, no table changes, and the patches laid over the old file make the new one.
-use Rattle.std.proofs.Common.{◌≡◌, ℕ, ◌+◌, ◌%◌, ◌<◌, ◌≤◌, Bool, true, false, cond, eqb, leb, List, [], ◌∷◌, ◌++◌, length, map, take, refl, sym, ap, ◌∙◌, append_assoc, arith, inl, inr}
-use Rattle.std.specs.Prelude.{◌⊎◌, ◌&&◌, ◌||◌, codes}
+use Rattle.std.proofs.Common.{◌≡◌, ℕ, ◌+◌, ◌%◌, ◌<◌, ◌≤◌, Bool, true, false, cond, eqb, List, [], ◌∷◌, ◌++◌, length, take, refl, sym, ap, ◌∙◌, append_assoc, arith, inl, inr}
+use Rattle.std.specs.Prelude.{◌⊎◌, ◌&&◌, codes}
 use Rattle.std.specs.Int.{w32, to_le_bytes}
 use Rattle.std.specs.List.{flat_map}
 use Rattle.std.proofs.lemmas.Bool.{and_parts, lt-leb, cases_lt, eqb-true}
-use Rattle.std.proofs.lemmas.List.{append-nil, length-append, take_at}
-use Rattle.container_model.specs.Chunk.{Chunk, spell, spell_all}
+use Rattle.std.proofs.lemmas.List.{length-append, take_at}
+use Rattle.container_model.specs.Chunk.{spell_all}
 use Rattle.container_model.specs.Splice.{Cut, end_of, gained, lost, shift}
-use Rattle.container_model.specs.Units.{Piece, copied, replaced, shut, padded, units, unit_bytes, lead_pad, old_bytes, lay, cut_of, cuts}
+use Rattle.container_model.specs.Units.{Piece, shut, units, old_bytes, cuts}
 use Rattle.container_model.proofs.Places.{old_length, Before}
 use Rattle.container_model.proofs.Splice.{before_lost, behind_lost}
-use Rattle.container_model.proofs.Units.{BringsPad, spell_all-append, units_old, units_bring}
-use Rattle.carrier_model.specs.Info.{riff_fill, is_type, list_run}
+use Rattle.container_model.proofs.Units.{BringsPad, units_old, units_bring}
+use Rattle.carrier_model.specs.Info.{riff_fill}
 use Rattle.carrier_model.specs.Room.{fits_slot, units_fit, unit_patches}
 use Rattle.part_tree.specs.declared.plan.Patch.{Patch}
 use Rattle.part_tree.specs.Patches.{InOrder, Touches, patched}

@@ -1,5 +1,5 @@
 -- Where every unit fits its slot, whatever its padding is: no place moves, and the units' patches make the new chunks.
-use Rattle.std.proofs.Common.{◌≡◌, ℕ, ◌+◌, ◌-◌, ◌<◌, ◌≤◌, Bool, true, false, leb, List, [], ◌∷◌, ◌++◌, length, map, take, drop, refl, sym, ap, subst, ◌∙◌, append_assoc, arith, inl, inr}
+use Rattle.std.proofs.Common.{◌≡◌, ℕ, ◌+◌, ◌<◌, ◌≤◌, Bool, true, false, leb, List, [], ◌∷◌, ◌++◌, length, map, take, drop, refl, sym, ap, subst, ◌∙◌, append_assoc, arith, inl, inr}
 use Rattle.std.specs.Prelude.{◌⊎◌, ◌&&◌, not}
 use Rattle.std.specs.List.{flat_map}
 use Rattle.std.proofs.lemmas.Bool.{and_parts, cases_lt, lt-leb}
@@ -14,7 +14,7 @@ use Rattle.container_model.proofs.Places.{old_length}
 use Rattle.container_model.proofs.Splice.{before_lost}
 use Rattle.container_model.proofs.Units.{BringsPad, spell_all-append}
 use Rattle.carrier_model.specs.Room.{patch, unit_patch, unit_patches}
-use Rattle.carrier_model.proofs.Patches.{patched-append, patched_one, laid_behind, order_low, order_patch, touches_behind, touches_patch}
+use Rattle.carrier_model.proofs.Patches.{patched-append, patched_one, laid_behind, order_patch, touches_behind, touches_patch}
 
 -- A unit with a spelling and a padding fits a slot: the two fill it, and the padding's body is the last bytes of the slot.
 pub record Fits (slot u p : List ℕ) : Type 0 where

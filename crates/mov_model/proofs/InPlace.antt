@@ -1,24 +1,22 @@
 -- Where an edit has room, no chunk moves, and the patches laid over the old file make the new one.
 use Rattle.std.proofs.Common.{◌≡◌, ℕ, ◌+◌, ◌-◌, ◌^◌, ◌<◌, ◌≤◌, Bool, true, false, cond, eqb, leb, ltb, List, [], ◌∷◌, ◌++◌, length, map, take, drop, Some, refl, sym, ap, subst, ◌∙◌, append_assoc, arith, inl, inr}
-use Rattle.std.specs.Prelude.{◌⊎◌, ◌&&◌, ◌||◌, not, filter, codes}
+use Rattle.std.specs.Prelude.{◌⊎◌, ◌&&◌, ◌||◌, codes}
 use Rattle.std.specs.Int.{w32, w64, to_be_bytes}
 use Rattle.std.specs.List.{flat_map, AllByRecursion}
 use Rattle.std.proofs.lemmas.Bool.{and_parts, cases_lt, cond-true, cond-false, eqb-true, le-leb, leb-true, lt-leb, lt-ltb, ltb-true}
-use Rattle.std.proofs.lemmas.List.{append-nil, drop-append-le, drop_all, drop_at, length-append, length-drop, take-append-drop, take_at}
+use Rattle.std.proofs.lemmas.List.{append-nil, drop_all, drop_at, length-append, length-drop, take_at}
 use Rattle.me_bytes.specs.Bytes.{IsBytes, overlay}
 use Rattle.part_tree.specs.declared.field.EditItem.{EditItem}
 use Rattle.part_tree.specs.declared.field.Value.{Value}
-use Rattle.part_tree.specs.declared.plan.Patch.{Patch}
 use Rattle.part_tree.specs.Patches.{patched, laid}
 use Rattle.container_model.specs.Chunk.{Form, header_bytes, Chunk, spell, spell_all}
 use Rattle.container_model.specs.Items.{Item, is_nil}
 use Rattle.container_model.specs.Sizes.{top}
-use Rattle.container_model.specs.Splice.{Cut, end_of, gained, lost, shift, splice}
-use Rattle.container_model.specs.Units.{Piece, copied, replaced, shut, padded, old_bytes, unit_bytes, lay, cut_of, cuts}
+use Rattle.container_model.specs.Splice.{shift, splice}
+use Rattle.container_model.specs.Units.{Piece, copied, replaced, shut, old_bytes, unit_bytes, lay}
 use Rattle.container_model.proofs.Places.{old_length}
 use Rattle.container_model.proofs.Read.{AtomForm, told_of}
-use Rattle.container_model.proofs.Splice.{before_lost}
-use Rattle.container_model.proofs.Units.{BringsPad, drop_past, lay_splices, spell_all-append}
+use Rattle.container_model.proofs.Units.{lay_splices}
 use Rattle.mov_model.specs.Atoms.{atom, cell_of, atoms_in}
 use Rattle.mov_model.specs.User.{user_items, udta}
 use Rattle.mov_model.specs.Tables.{tables, places}

@@ -1,12 +1,11 @@
 -- How long what is laid is, where the last slot goes on behind moov.
 use Rattle.std.proofs.Common.{Bool, List, [], ap, append_assoc, arith, false, length, map, refl, sym, true, ℕ, ◌++◌, ◌+◌, ◌∙◌, ◌∷◌, ◌≡◌}
-use Rattle.std.specs.Prelude.{not, ◌&&◌}
 use Rattle.std.proofs.lemmas.List.{append-nil, length-append}
 use Rattle.std.specs.List.{flat_map}
 use Rattle.container_model.proofs.Places.{old_length}
 use Rattle.container_model.proofs.Units.{BringsPad, spell_all-append}
 use Rattle.container_model.specs.Chunk.{Chunk, spell, spell_all}
-use Rattle.container_model.specs.Units.{Cell, Piece, Slot, begun, closed, copied, edited, gap, is_empty, kept, kept_next, lacks_pad, lay, old_bytes, padded, replaced, shut, unit_bytes, units}
+use Rattle.container_model.specs.Units.{Piece, copied, lay, old_bytes, padded, replaced, unit_bytes}
 use Rattle.carrier_model.proofs.Fitted.{LastOnly}
 use Rattle.mov_model.specs.New.{ends_open, fill, grown, hanging, padding}
 

@@ -1,22 +1,20 @@
 -- The patches of an edit that has room stand in order, and there are two at most.
-use Rattle.std.proofs.Common.{◌≡◌, ℕ, suc, ◌+◌, ◌<◌, ◌≤◌, Bool, true, false, cond, eqb, List, [], ◌∷◌, ◌++◌, length, map, take, refl, sym, ap, subst, ◌∙◌, arith, inl, inr}
-use Rattle.std.specs.Prelude.{◌⊎◌, ◌&&◌, not, filter, codes}
+use Rattle.std.proofs.Common.{◌≡◌, ℕ, suc, ◌+◌, ◌<◌, ◌≤◌, Bool, true, false, cond, eqb, List, [], ◌∷◌, ◌++◌, length, map, refl, sym, ap, subst, ◌∙◌, arith, inl, inr}
+use Rattle.std.specs.Prelude.{◌&&◌, not, codes}
 use Rattle.std.specs.Int.{w32, w64, to_be_bytes}
 use Rattle.std.specs.List.{flat_map, AllByRecursion}
 use Rattle.std.proofs.lemmas.Bool.{and_parts, le-ltb, leb-true}
-use Rattle.std.proofs.lemmas.List.{length-append, length-take}
+use Rattle.std.proofs.lemmas.List.{length-append}
 use Rattle.me_bytes.specs.Bytes.{IsBytes}
 use Rattle.part_tree.specs.declared.field.EditItem.{EditItem}
 use Rattle.part_tree.specs.declared.field.Value.{Value}
 use Rattle.part_tree.specs.declared.plan.Patch.{Patch}
 use Rattle.part_tree.specs.Patches.{InOrder, Touches}
 use Rattle.container_model.specs.Chunk.{Form, riff, wide, short, long, to_end, header_bytes, Chunk, spell, spell_all}
-use Rattle.container_model.specs.Items.{Item, is_nil, put_all, edit_carrier}
+use Rattle.container_model.specs.Items.{Item, put_all, edit_carrier}
 use Rattle.container_model.specs.Sizes.{inside}
-use Rattle.container_model.specs.Units.{Cell, kept, gap, edited, live, lacks_pad, is_empty, kept_next, Piece, copied, replaced, Slot, shut, begun, closed, padded, units, old_bytes, lead_pad, unit_bytes, Fill, lay}
-use Rattle.container_model.proofs.Places.{old_length}
+use Rattle.container_model.specs.Units.{Cell, kept, gap, edited, live, lacks_pad, is_empty, kept_next, Piece, copied, replaced, Slot, shut, begun, closed, units, Fill, lay}
 use Rattle.container_model.proofs.Read.{Atom, AtomForm}
-use Rattle.container_model.proofs.Units.{BringsPad, spell_all-append}
 use Rattle.mov_model.specs.Atoms.{cell_by, cell_of, is_padding}
 use Rattle.mov_model.specs.User.{user_items, udta}
 use Rattle.mov_model.specs.Carried.{first_cell, add_last, only_gaps, add_new, fresh, carry_by, carried, has_carrier}
