@@ -1,22 +1,18 @@
 -- An edit that keeps the rules of Base names fields that an AVI file has.
-use Rattle.std.proofs.Common.{◌≡◌, ℕ, suc, Bool, true, false, cond, List, [], ◌∷◌, ◌++◌, map, Option, Some, None, refl}
-use Rattle.std.specs.Prelude.{not, filter, nat_le}
+use Rattle.std.proofs.Common.{◌≡◌, ℕ, Bool, true, false, cond, List, [], ◌∷◌, ◌++◌, Option, Some, None, refl}
+use Rattle.std.specs.Prelude.{not}
 use Rattle.std.specs.List.{AllByRecursion, filter_map, cons_option}
-use Rattle.part_tree.specs.Names.{field_place, info_ids}
-use Rattle.part_tree.specs.declared.field.Broken.{Broken}
+use Rattle.part_tree.specs.Names.{info_ids}
 use Rattle.part_tree.specs.declared.field.Change.{Change}
 use Rattle.part_tree.specs.declared.field.Change.TheVariants.{Set, Remove}
 use Rattle.part_tree.specs.declared.field.EditItem.{EditItem}
 use Rattle.part_tree.specs.declared.field.FieldName.{FieldName}
 use Rattle.part_tree.specs.declared.field.FieldName.TheVariants.{Bext, Info, Whole, User}
-use Rattle.part_tree.specs.declared.field.RuleSet.{RuleSet}
 use Rattle.part_tree.specs.declared.field.RuleSet.TheVariants.{Base}
-use Rattle.part_tree.specs.declared.names.Kind.{Kind}
 use Rattle.part_tree.specs.declared.names.Kind.TheVariants.{Avi}
-use Rattle.field_model.specs.Broken.{Rule, on_item, chooses, failing, findings_from, findings, first_found, first_name, first_of, broken, has_field, set_fails, rules}
+use Rattle.field_model.specs.Broken.{broken, has_field}
 use Rattle.part_tree.specs.declared.field.Value.{Value}
 use Rattle.field_model.specs.Fields.{FieldMap, plain}
-use Rattle.field_model.specs.Rules.{too_long}
 use Rattle.field_model.specs.Update.{RawItem, effective, raw_item, raw_items, raw_change}
 use Rattle.field_model.proofs.Kept.{Kept, base_kept}
 use Rattle.carrier_model.specs.Info.{one_of, SetsInfo}

@@ -1,20 +1,17 @@
 -- An edit that keeps the rules of Base sets texts that fit, of fields that a movie has.
-use Rattle.std.proofs.Common.{Some, ◌≡◌, ℕ, suc, ◌<◌, ◌^◌, Bool, true, false, cond, ltb, List, [], ◌∷◌, ◌++◌, length, map, None, refl, arith}
-use Rattle.std.specs.Prelude.{◌||◌, not, filter, nat_le}
+use Rattle.std.proofs.Common.{Some, ◌≡◌, ℕ, ◌<◌, ◌^◌, Bool, true, false, cond, ltb, List, [], ◌∷◌, ◌++◌, length, None, refl, arith}
+use Rattle.std.specs.Prelude.{◌||◌, not}
 use Rattle.std.specs.List.{AllByRecursion, filter_map, cons_option}
 use Rattle.std.proofs.lemmas.Bool.{ltb-false}
-use Rattle.part_tree.specs.Names.{field_place, is_user_type}
-use Rattle.part_tree.specs.declared.field.Broken.{Broken}
+use Rattle.part_tree.specs.Names.{is_user_type}
 use Rattle.part_tree.specs.declared.field.Change.{Change}
 use Rattle.part_tree.specs.declared.field.Change.TheVariants.{Set, Remove}
 use Rattle.part_tree.specs.declared.field.EditItem.{EditItem}
 use Rattle.part_tree.specs.declared.field.FieldName.{FieldName}
 use Rattle.part_tree.specs.declared.field.FieldName.TheVariants.{Bext, Info, Whole, User}
-use Rattle.part_tree.specs.declared.field.RuleSet.{RuleSet}
 use Rattle.part_tree.specs.declared.field.RuleSet.TheVariants.{Base}
-use Rattle.part_tree.specs.declared.names.Kind.{Kind}
 use Rattle.part_tree.specs.declared.names.Kind.TheVariants.{Mov}
-use Rattle.field_model.specs.Broken.{Rule, on_item, chooses, failing, findings_from, findings, first_found, first_name, first_of, broken, has_field, set_fails, rules}
+use Rattle.field_model.specs.Broken.{broken, has_field, set_fails}
 use Rattle.field_model.specs.Fields.{FieldMap}
 use Rattle.field_model.specs.Rules.{too_long}
 use Rattle.field_model.specs.Update.{RawItem, effective, raw_item, raw_items, raw_change}
