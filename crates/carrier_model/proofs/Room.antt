@@ -1,14 +1,17 @@
--- In RIFF a unit that fits its slot fills it with its padding.
-use Rattle.std.proofs.Common.{◌≡◌, ℕ, ◌+◌, ◌-◌, ◌%◌, ◌^◌, ◌<◌, ◌≤◌, Bool, true, false, cond, eqb, leb, ltb, List, [], ◌∷◌, ◌++◌, length, drop, refl, sym, ap, subst, ◌∙◌, arith}
+-- In RIFF a unit that fits its slot fills it with its padding; the patches of units that fit make the new chunks.
+use Rattle.std.proofs.Common.{◌≡◌, ℕ, ◌+◌, ◌-◌, ◌%◌, ◌^◌, ◌<◌, ◌≤◌, Bool, true, false, cond, eqb, leb, ltb, List, [], ◌∷◌, ◌++◌, length, take, drop, refl, sym, ap, subst, ◌∙◌, arith}
 use Rattle.std.specs.Prelude.{◌&&◌, ◌||◌, codes}
 use Rattle.std.specs.Int.{w32, to_le_bytes}
+use Rattle.std.specs.List.{flat_map}
 use Rattle.std.proofs.lemmas.Bool.{and_parts, eqb-true, le-leb, leb-true, lt-leb, ltb-true}
-use Rattle.std.proofs.lemmas.List.{append-nil, drop_all, length-append, length-drop}
+use Rattle.std.proofs.lemmas.List.{append-nil, drop_all, length-append, length-drop, take_at}
 use Rattle.container_model.specs.Chunk.{Chunk, spell_all}
-use Rattle.container_model.specs.Units.{Piece, copied, replaced, unit_bytes}
+use Rattle.part_tree.specs.Patches.{InOrder, Touches, laid}
+use Rattle.container_model.specs.Units.{Cell, Piece, copied, replaced, shut, units, old_bytes, unit_bytes, lay}
+use Rattle.container_model.proofs.Units.{units_bring}
 use Rattle.carrier_model.specs.Info.{made, fill_by, riff_fill}
-use Rattle.carrier_model.specs.Room.{leaves_padding, fits_slot, units_fit}
-use Rattle.carrier_model.proofs.Fitted.{AllFit, Fits}
+use Rattle.carrier_model.specs.Room.{leaves_padding, fits_slot, units_fit, unit_patches}
+use Rattle.carrier_model.proofs.Fitted.{AllFit, Fits, last_units, units_cover, units_in_order, units_patched}
 
 -- ---- a unit that fits and doesn't end the file
 
@@ -87,3 +90,23 @@ module _ (ends : Bool) where
       let s = length (unit_bytes lead now) in
       let p = and_parts (fits_slot (ends && last) (length slot) s) (units_fit ends ps) h in
       ((λ e. fill_none last slot s e, λ e. piece_fits last slot (unit_bytes lead now) p.0 e), riff_fits ps p.1)
+
+-- ---- the units of some cells
+
+module _ (ends : Bool) (xs : List Cell) (fit : units_fit ends (units shut xs) ≡ true) where
+  abbrev ps : List Piece
+  ps = units shut xs
+
+  pub cells_patched : (x r : List ℕ) → (ends ≡ true → r ≡ [])
+      → laid (length x + (length (spell_all (lay (riff_fill ends) ps)) + length r)) (unit_patches (riff_fill ends) (length x) ps) (x ++ (flat_map old_bytes ps ++ r)) ≡ x ++ (spell_all (lay (riff_fill ends) ps) ++ r)
+  cells_patched x r none =
+      let new = spell_all (lay (riff_fill ends) ps) in
+      let n = length x + (length new + length r) in
+      let done = units_patched (riff_fill ends) ends (length x) x ps r refl (last_units shut xs) (units_bring shut xs tt) (riff_fits ends ps fit) none in
+      ap (take n) done.1 ∙ take_at (x ++ (new ++ r)) done.0 n (omega (arith, length-append x (new ++ r), length-append new r))
+
+  pub cells_ordered : (at : ℕ) → InOrder (at + length (spell_all (lay (riff_fill ends) ps))) at (unit_patches (riff_fill ends) at ps)
+  cells_ordered at = units_in_order (riff_fill ends) ends (at + length (spell_all (lay (riff_fill ends) ps))) at at ps (omega arith) (omega arith) (last_units shut xs) (units_bring shut xs tt) (riff_fits ends ps fit)
+
+  pub cells_covered : (at q : ℕ) → at + length (flat_map old_bytes ps) ≤ q → q < at + length (spell_all (lay (riff_fill ends) ps)) → Touches q (unit_patches (riff_fill ends) at ps)
+  cells_covered at q low high = units_cover (riff_fill ends) ends at ps q (last_units shut xs) (units_bring shut xs tt) (riff_fits ends ps fit) low high
