@@ -1,4 +1,3 @@
-use Rattle.std.proofs.Common.{◌∙◌}
 use Rattle.edit_planner.proofs.Formed.{form_mapped, form_sound}
 use Rattle.edit_planner.proofs.plans.form_of.Goals as goal
 
