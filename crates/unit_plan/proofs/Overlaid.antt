@@ -4,7 +4,7 @@ use Rattle.std.specs.List.{flat_map}
 use Rattle.std.proofs.lemmas.List.{drop-drop, drop_all, take_at, take-append-drop}
 use Rattle.part_tree.specs.declared.plan.Patch.{Patch}
 use Rattle.me_bytes.specs.Bytes.{overlay}
-use Rattle.part_tree.specs.Patches.{patched, laid, all_bytes}
+use Rattle.part_tree.specs.Patches.{patched, laid}
 use Rattle.carrier_model.proofs.Patches.{overlay_is, patched-append, patched_one}
 use Rattle.container_model.specs.Splice.{Cut, splice, splice_from}
 use Rattle.container_model.proofs.Units.{take_past, drop_past}
@@ -118,7 +118,3 @@ laid_splices b len new ks e h f is =
     let fits : FitsIn (length b) ks = subst (λ (n : ℕ). FitsIn n ks) (sym e) f in
     let done = laid_from b [] 0 ks refl ascend fits in
     ap (take new) done.1 ∙ take_at (splice b (map (cut_in b) ks)) done.0 new (spliced_length b len ks e h ∙ sym is)
-
--- the bytes of all patches together, by one definition
-pub same_total : (ps : List Patch) → all_bytes ps ≡ all_bytes ps
-same_total ps = refl
