@@ -52,10 +52,10 @@ pub fn shows(depot: &mut SparseDepot, at: u64, want: &[u8]) -> bool
 {
     let mut buffer = [0u8; 64];
     let got = &mut buffer[..want.len()];
-    depot.read_at(Slot::Main, at, got).is_ok() && got == want
+    depot.read_at(Slot::Main, at, got).is_ok() && &*got == want
 }
 
 /// Whether the file has so many bytes.
 pub fn has_len(depot: &mut SparseDepot, len: u64) -> bool {
-    depot.len(Slot::Main) == Ok(len)
+    matches!(depot.len(Slot::Main), Ok(found) if found == len)
 }

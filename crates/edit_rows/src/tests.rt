@@ -154,7 +154,7 @@ fn the_fields_of_a_file_are_shown_in_field_order(rt: HostRuntime) -> Result<(), 
 
 #[test]
 fn checksums_are_told_and_compared(rt: HostRuntime) -> Result<(), Fail> {
-    let rows: [(&[u8], u64, u64, &str); 3] = [
+    let rows: [(&[u8], u64, u32, &str); 3] = [
         (
             ODD,
             3,
@@ -345,6 +345,7 @@ fn a_recovery_needs_a_file(rt: HostRuntime) -> Result<(), Fail> {
     Ok(())
 }
 
+// The last call of a rewrite puts the new file in place of the old one.
 #[test]
 fn a_rewrite_stopped_anywhere_leaves_the_old_file_or_the_new(rt: HostRuntime) -> Result<(), Fail> {
     let item = described(rt.alloc(), 256)?;
@@ -354,25 +355,14 @@ fn a_rewrite_stopped_anywhere_leaves_the_old_file_or_the_new(rt: HostRuntime) ->
     assert!(rt; calls < 100);
     for n in 0..calls + 1 {
         let want: &[u8] = if n < calls { PLAIN } else { &new };
-        for k in 0..613 {
+        for k in 0..57 {
             assert!(rt; survives(rt.alloc(), &words, n, k, want)?);
         }
     }
     Ok(())
 }
 
-// The k-th crash after n calls of the edit in place is recovered, also where the recovery is stopped after each of its calls.
-fn check_stop(rt: &(impl Abort + AllocGlobal), n: u64, k: u64, want: &[u8]) -> Result<(), Fail> {
-    assert!(rt; survives(rt.alloc(), TITLE, n, k, want)?);
-    for m in 0..20 {
-        for again in 0..31 {
-            assert!(rt; survives_twice(rt.alloc(), TITLE, (n, k), (m, again), want)?);
-        }
-    }
-    Ok(())
-}
-
-// The last eight calls are those that write; from the fourth of them on the journal stands.
+// The last eight calls of an edit in place are those that write; from the fourth of them on the journal stands.
 #[test]
 fn an_edit_in_place_stopped_anywhere_is_recovered(rt: HostRuntime) -> Result<(), Fail> {
     let calls = calls_of(rt.alloc(), TITLE)?;
@@ -380,8 +370,38 @@ fn an_edit_in_place_stopped_anywhere_is_recovered(rt: HostRuntime) -> Result<(),
     for n in 0..calls + 1 {
         let want = if n + 4 < calls { PLAIN } else { TITLED };
         for k in 0..31 {
-            check_stop(&rt, n, k, want)?;
+            assert!(rt; survives(rt.alloc(), TITLE, n, k, want)?);
         }
+    }
+    Ok(())
+}
+
+// The k-th crash after n calls of the edit in place is recovered, also where the recovery is stopped after each of its calls, or
+// within it.
+fn check_twice(
+    rt: &(impl Abort + AllocGlobal),
+    first: (u64, u64),
+    ways: u64,
+    want: &[u8],
+) -> Result<(), Fail> {
+    for m in 0..20 {
+        for again in 0..ways {
+            assert!(rt; survives_twice(rt.alloc(), TITLE, first, (m, again), want)?);
+        }
+    }
+    Ok(())
+}
+
+#[test]
+fn a_stopped_recovery_is_taken_up_again(rt: HostRuntime) -> Result<(), Fail> {
+    let calls = calls_of(rt.alloc(), TITLE)?;
+    assert!(rt; 8 < calls && calls < 100);
+    for n in calls - 5..calls + 1 {
+        let want = if n + 4 < calls { PLAIN } else { TITLED };
+        for k in 0..31 {
+            check_twice(&rt, (n, k), 3, want)?;
+        }
+        check_twice(&rt, (n, 0), 31, want)?;
     }
     Ok(())
 }
