@@ -19,7 +19,7 @@ const PAPER: usize = 200;
 
 /// These texts as words of a command line.
 pub fn words_of(alloc: Global, texts: &[&str]) -> Result<Vec<Word>, NoMemory>
-    ensures { IfOk result (λ words. words.now ≡ map (λ text. text.now) texts.now) }
+    ensures { IfOk result (λ words. words.items ≡ map (λ text. text.now) texts.now) }
 {
     let mut words = Vec::new(alloc);
     for text in texts {
