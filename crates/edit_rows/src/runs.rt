@@ -1,7 +1,7 @@
 // Runs of the editor over a depot in memory.
-ghost use Rattle.std.specs.Prelude.{◌≡◌, ◌↔◌, IfOk, IsTrue, Some, None, map};
-ghost use Rattle.me_disk.specs.Disk.{Image, Only, read_as};
-ghost use Rattle.me_disk.specs.Memory.{memory_disk};
+ghost use Rattle.std.specs.Prelude.{◌≡◌, ◌↔◌, IfOk, IsTrue, None, map, option_copied};
+ghost use Rattle.me_disk.specs.Disk.{Image, Only, held, read_as};
+ghost use Rattle.me_disk.specs.Memory.{items_of, memory_disk};
 ghost use Rattle.metaedit_top.specs.Run.{MayStandBy};
 
 use me_disk::{Depot, FailAt, MemoryDepot, MemorySink, MemorySource, Room, Slot};
@@ -38,6 +38,7 @@ pub fn depot_of(
     journal: Option<&[u8]>,
     failing: &[FailAt],
 ) -> Result<MemoryDepot, NoMemory>
+    ensures slots { IfOk result (λ d. (memory_disk d).slots ≡ record { main = option_copied main.entry; journal = option_copied journal.entry; work = None }) }
     ensures only { IfOk result (λ d. Only (read_as (memory_disk d).slots) (memory_disk d)) }
 {
     let main = owned(alloc, main)?;
@@ -45,7 +46,10 @@ pub fn depot_of(
     MemoryDepot::new(alloc, main, journal, AMPLE, failing.to_vec(alloc)?)
 }
 
-fn owned(alloc: Global, bytes: Option<&[u8]>) -> Result<Option<Vec<u8>>, NoMemory> {
+// A copy of the bytes, where there are some.
+fn owned(alloc: Global, bytes: Option<&[u8]>) -> Result<Option<Vec<u8>>, NoMemory>
+    ensures { IfOk result (λ copy. items_of copy ≡ option_copied bytes.entry) }
+{
     match bytes {
         Some(bytes) => Ok(Some(bytes.to_vec(alloc)?)),
         None => Ok(None),
@@ -94,8 +98,19 @@ pub fn run_told<D: Depot>(
 }
 
 /// Whether the depot holds this file and this journal, and no work file.
-pub fn holds(depot: &MemoryDepot, main: Option<&[u8]>, journal: Option<&[u8]>) -> bool {
-    depot.content(Slot::Main) == main
-        && depot.content(Slot::Journal) == journal
-        && depot.content(Slot::Work).is_none()
+pub fn holds(depot: &MemoryDepot, main: Option<&[u8]>, journal: Option<&[u8]>) -> bool
+    ensures { IsTrue result ↔ ((memory_disk depot.now).slots ≡ record { main = option_copied main.entry; journal = option_copied journal.entry; work = None }) }
+{
+    has(depot, Slot::Main, main) && has(depot, Slot::Journal, journal) && has(depot, Slot::Work, None)
+}
+
+// Whether a slot holds these bytes, or nothing.
+fn has(depot: &MemoryDepot, slot: Slot, want: Option<&[u8]>) -> bool
+    ensures { IsTrue result ↔ (held slot (memory_disk depot.now).slots ≡ option_copied want.entry) }
+{
+    match (depot.content(slot), want) {
+        (Some(bytes), Some(want)) => bytes == want,
+        (None, None) => true,
+        _ => false,
+    }
 }

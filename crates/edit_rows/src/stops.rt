@@ -1,7 +1,8 @@
 // Runs that are stopped after one of their calls, and recovered.
-ghost use Rattle.std.specs.Prelude.{◌≡◌, IfOk};
+ghost use Rattle.std.specs.Prelude.{◌≡◌, IfOk, map};
 ghost use Rattle.me_disk.specs.Disk.{Only, read_as};
 ghost use Rattle.me_disk.specs.Memory.{memory_disk};
+ghost use Rattle.metaedit_top.specs.Run.{MayStandBy};
 
 use crate::files::PLAIN;
 use crate::runs::{depot_of, holds, run_told};
@@ -39,7 +40,8 @@ pub fn plain(alloc: Global) -> Result<MemoryDepot, NoMemory>
 
 /// Lets every call after the n-th fail.
 pub fn stop(depot: &mut MemoryDepot, n: u64)
-    ensures { Only (read_as (memory_disk depot.old).slots) (memory_disk depot.old) → Only (read_as (memory_disk depot.new).slots) (memory_disk depot.new) }
+    ensures slots { (memory_disk depot.new).slots ≡ (memory_disk depot.old).slots }
+    ensures only { Only (read_as (memory_disk depot.old).slots) (memory_disk depot.old) → Only (read_as (memory_disk depot.new).slots) (memory_disk depot.new) }
 {
     depot.stop_after(n);
 }
@@ -53,7 +55,8 @@ pub fn stopped(
     pick: Pick,
 ) -> Result<MemoryDepot, NoMemory>
     requires { Only (read_as (memory_disk depot).slots) (memory_disk depot) }
-    ensures { IfOk result (λ d. Only (read_as (memory_disk d).slots) (memory_disk d)) }
+    ensures stands { IfOk result (λ d. MayStandBy (map (λ text. text.now) texts.now) (memory_disk depot) (read_as (memory_disk d).slots)) }
+    ensures only { IfOk result (λ d. Only (read_as (memory_disk d).slots) (memory_disk d)) }
 {
     stop(&mut depot, n);
     run_told(alloc, texts, &mut depot)?;
