@@ -103,9 +103,11 @@ pub fn goes(alloc: Global, row: &Row<'_>) -> Result<bool, NoMemory> {
 // Whether the status, the line and the report are those of the row.
 fn is_told(alloc: Global, ran: &Ran, row: &Row<'_>) -> Result<bool, NoMemory> {
     let line = line_of(alloc, &ran.outcome)?;
-    Ok(code(&ran.outcome) == row.status
-        && line.as_slice() == row.line.as_bytes()
-        && ran.out.written() == row.printed.as_bytes())
+    Ok(
+        code(&ran.outcome) == row.status
+            && line.as_slice() == row.line.as_bytes()
+            && ran.out.written() == row.printed.as_bytes(),
+    )
 }
 
 // Whether what is left is what the row says.

@@ -1,5 +1,5 @@
 // Runs of the editor over a depot in memory.
-ghost use Rattle.std.specs.Prelude.{◌≡◌, ◌↔◌, IfOk, IsTrue, None, map, option_copied};
+ghost use Rattle.std.specs.Prelude.{◌≡◌, ◌↔◌, IfOk, IsTrue, None, [], map, option_copied};
 ghost use Rattle.me_disk.specs.Disk.{Image, Only, held, read_as};
 ghost use Rattle.me_disk.specs.Memory.{items_of, memory_disk};
 ghost use Rattle.metaedit_top.specs.Run.{MayStandBy};
@@ -57,7 +57,9 @@ fn owned(alloc: Global, bytes: Option<&[u8]>) -> Result<Option<Vec<u8>>, NoMemor
 }
 
 /// Paper for what a run prints, of which these calls fail.
-pub fn paper(alloc: Global, failing: &[u64]) -> Result<MemorySink, NoMemory> {
+pub fn paper(alloc: Global, failing: &[u64]) -> Result<MemorySink, NoMemory>
+    ensures { IfOk result (λ out. out.written ≡ []) }
+{
     MemorySink::new(alloc, PAPER, failing.to_vec(alloc)?)
 }
 
@@ -83,11 +85,7 @@ pub struct Ran {
 }
 
 /// A run whose words are these texts.
-pub fn run_told<D: Depot>(
-    alloc: Global,
-    texts: &[&str],
-    depot: &mut D,
-) -> Result<Ran, NoMemory>
+pub fn run_told<D: Depot>(alloc: Global, texts: &[&str], depot: &mut D) -> Result<Ran, NoMemory>
     requires { Only (read_as (D.disk depot.old).slots) (D.disk depot.old) }
     ensures { (i : Image) → (D.disk depot.new).since (D.disk depot.old).clock i → MayStandBy (map (λ text. text.now) texts.now) (D.disk depot.old) i }
 {
@@ -101,7 +99,9 @@ pub fn run_told<D: Depot>(
 pub fn holds(depot: &MemoryDepot, main: Option<&[u8]>, journal: Option<&[u8]>) -> bool
     ensures { IsTrue result ↔ ((memory_disk depot.now).slots ≡ record { main = option_copied main.entry; journal = option_copied journal.entry; work = None }) }
 {
-    has(depot, Slot::Main, main) && has(depot, Slot::Journal, journal) && has(depot, Slot::Work, None)
+    has(depot, Slot::Main, main)
+        && has(depot, Slot::Journal, journal)
+        && has(depot, Slot::Work, None)
 }
 
 // Whether a slot holds these bytes, or nothing.

@@ -1,5 +1,5 @@
 // Runs that are stopped after one of their calls, and recovered.
-ghost use Rattle.std.specs.Prelude.{◌≡◌, IfOk, map};
+ghost use Rattle.std.specs.Prelude.{◌≡◌, ◌-◌, ◌≤◌, IfOk, None, Some, map};
 ghost use Rattle.me_disk.specs.Disk.{Only, read_as};
 ghost use Rattle.me_disk.specs.Memory.{memory_disk};
 ghost use Rattle.metaedit_top.specs.Run.{MayStandBy};
@@ -23,7 +23,11 @@ pub const NO_EDIT: Summary = Summary {
 };
 
 /// The k-th way in which a crash may leave the writes: none of them, all, or so many bytes.
-pub fn pick_of(k: u64) -> Pick {
+pub fn pick_of(k: u64) -> Pick
+    ensures none { k ≡ 0 → result ≡ Pick.Before }
+    ensures all { k ≡ 1 → result ≡ Pick.After }
+    ensures torn { 2 ≤ k → result ≡ Pick.Torn (k - 2) }
+{
     match k {
         0 => Pick::Before,
         1 => Pick::After,
@@ -33,7 +37,8 @@ pub fn pick_of(k: u64) -> Pick {
 
 /// A depot that holds the plain file.
 pub fn plain(alloc: Global) -> Result<MemoryDepot, NoMemory>
-    ensures { IfOk result (λ d. Only (read_as (memory_disk d).slots) (memory_disk d)) }
+    ensures slots { IfOk result (λ d. (memory_disk d).slots ≡ record { main = Some PLAIN.now; journal = None; work = None }) }
+    ensures only { IfOk result (λ d. Only (read_as (memory_disk d).slots) (memory_disk d)) }
 {
     depot_of(alloc, Some(PLAIN), None, &[])
 }
@@ -105,7 +110,9 @@ pub fn is_done_within(alloc: Global, texts: &[&str], n: u64) -> Result<bool, NoM
 }
 
 /// How many calls the edit of the plain file makes, up to 100.
-pub fn calls_of(alloc: Global, texts: &[&str]) -> Result<u64, NoMemory> {
+pub fn calls_of(alloc: Global, texts: &[&str]) -> Result<u64, NoMemory>
+    ensures { IfOk result (λ n. n ≤ 100) }
+{
     for n in 0..100 {
         if is_done_within(alloc, texts, n)? {
             return Ok(n);

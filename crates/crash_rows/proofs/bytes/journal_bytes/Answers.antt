@@ -7,5 +7,5 @@ use Rattle.crash_rows.proofs.bytes.journal_bytes.Goals as goal
 
 pub returns : goal.returns
 returns c =
-  let items : c.in_ok-to_vec.field-0.items ≡ JOURNAL = search rules in
-  subst (λ (b : List ℕ). Journal b 48 72 patches) (sym items) journal_is
+    let items : c.in_ok-to_vec.field-0.items ≡ JOURNAL = search rules in
+    subst (λ (b : List ℕ). Journal b 48 72 patches) (sym items) journal_is

@@ -6,5 +6,5 @@ use Rattle.edit_rows.proofs.stops.stopped.Goals as goal
 
 pub returns-clause-stands : goal.returns-clause-stands
 returns-clause-stands c tells f stood bytes =
-  c.run_told.ensures (read_as (memory_disk c.reopen.result).slots) (counts_now _ _ _ _ c.reopen.ensures.image) tells f
+    c.run_told.ensures (read_as (memory_disk c.reopen.result).slots) (counts_now _ _ _ _ c.reopen.ensures.image) tells f
     (subst (λ (s : Slots). Settles f (read_as s)) (sym c.stop.ensures.slots) stood) bytes
