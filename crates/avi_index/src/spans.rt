@@ -1,5 +1,5 @@
 // Ranges of a file, and where the essence and the index chunks stand.
-ghost use Rattle.std.specs.Prelude.{◌≡◌, ◌+◌, ◌<◌, ◌≤◌, ◌^◌, ℕ, List};
+ghost use Rattle.std.specs.Prelude.{◌≡◌, ◌+◌, ◌==◌};
 ghost use Rattle.avi_model.specs.Index.{within};
 ghost use Rattle.avi_model.specs.Support.{in_one as lies_in_one};
 ghost use Rattle.avi_index.specs.Spans.{begins_one, clear_of, passes_by};
@@ -27,11 +27,10 @@ pub fn in_one(spans: &[Span], place: u64, len: u64) -> bool
 
 /// Whether the header of an index chunk stands at a place. The chunks are told by their bodies.
 pub fn is_head(indexes: &[Span], place: u64) -> bool
-    requires { place + 8 < 2 ^ 64 }
     ensures { result ≡ begins_one indexes.now place }
 {
     'spans: for span in indexes {
-        if span.at == place + 8 {
+        if begins_at(*span, place) {
             return true;
         }
     }
@@ -40,7 +39,6 @@ pub fn is_head(indexes: &[Span], place: u64) -> bool
 
 /// Whether no byte of a range is in an index chunk, its header counted. The chunks are told by their bodies.
 pub fn is_clear(indexes: &[Span], place: u64, len: u64) -> bool
-    requires { place + len + 8 < 2 ^ 64 }
     ensures { result ≡ clear_of indexes.now place len }
 {
     'spans: for span in indexes {
@@ -51,12 +49,18 @@ pub fn is_clear(indexes: &[Span], place: u64, len: u64) -> bool
     true
 }
 
+// Whether the header of this index chunk stands at a place.
+fn begins_at(span: Span, place: u64) -> bool
+    ensures { result ≡ (span.at == place + 8) }
+{
+    span.at >= 8 && span.at - 8 == place
+}
+
 // Whether no byte of a range is in this index chunk.
 fn passes(span: Span, place: u64, len: u64) -> bool
-    requires { place + len + 8 < 2 ^ 64 }
     ensures { result ≡ passes_by span place len }
 {
-    if place + len + 8 <= span.at {
+    if span.at >= place && span.at - place >= len && span.at - place - len >= 8 {
         return true;
     }
     place >= span.at && span.len <= place - span.at

@@ -1,8 +1,8 @@
 // Worked tables.
 use crate::{Base, IdxEntry, IndexFault, check_idx1, entry_at, entry_base};
-use me_disk::{MemoryDepot, Room};
+use me_disk::{Run, SparseDepot};
 use part_tree::{FourCc, Span};
-use std::alloc::{AllocError, Global};
+use std::alloc::Global;
 use std::test::Fail;
 
 // Eight bytes, a movi of one frame, and a table of three entries for it: from movi, from the start of the file, and astray.
@@ -11,17 +11,17 @@ const FILE: [u8; 76] =
 
 const MOVI: Span = Span { at: 8, len: 20 };
 
-fn depot_of(alloc: Global, file: &[u8]) -> Result<MemoryDepot, AllocError> {
-    let room = Room {
-        calls: 100,
-        bytes: 100,
-    };
-    let mut held = Vec::new(alloc);
-    held.extend_from_slice(file)?;
-    match MemoryDepot::new(alloc, Some(held), None, room, Vec::new(alloc)) {
-        Ok(depot) => Ok(depot),
-        Err(_) => Err(AllocError),
-    }
+// The three entries, each as a table.
+const FIRST: Span = Span { at: 28, len: 16 };
+
+const SECOND: Span = Span { at: 44, len: 16 };
+
+const THIRD: Span = Span { at: 60, len: 16 };
+
+fn depot_of(alloc: Global, file: &[u8]) -> Result<SparseDepot, Fail> {
+    let mut runs = Vec::new(alloc);
+    runs.push(Run::Bytes(file.to_vec(alloc)?))?;
+    Ok(SparseDepot::new(alloc, Some(runs))?)
 }
 
 #[test]
@@ -37,24 +37,16 @@ fn entries_are_read_up_to_the_end(rt: HostRuntime) -> Result<(), Fail> {
     Ok(())
 }
 
-// A table of one entry.
-fn one_at(at: u64) -> Span {
-    Span { at, len: 16 }
-}
-
 #[test]
 fn the_first_entry_tells_the_base(rt: HostRuntime) -> Result<(), Fail> {
     let mut depot = depot_of(rt.alloc(), &FILE)?;
+    assert_eq!(rt; entry_base(&mut depot, FIRST, MOVI, &[]), Ok(Base::Movi(8)));
     assert_eq!(rt;
-        entry_base(&mut depot, one_at(28), MOVI, &[]),
-        Ok(Base::Movi(8))
-    );
-    assert_eq!(rt;
-        entry_base(&mut depot, one_at(44), MOVI, &[]),
+        entry_base(&mut depot, SECOND, MOVI, &[]),
         Ok(Base::FileStart)
     );
     assert_eq!(rt;
-        entry_base(&mut depot, one_at(60), MOVI, &[]),
+        entry_base(&mut depot, THIRD, MOVI, &[]),
         Err(IndexFault::NoBase)
     );
     Ok(())
@@ -76,7 +68,7 @@ fn entries_are_counted_or_refused(rt: HostRuntime) -> Result<(), Fail> {
     assert_eq!(rt;
         check_idx1(
             &mut depot,
-            one_at(44),
+            SECOND,
             MOVI,
             Base::FileStart,
             &[Span { at: 24, len: 4 }]
