@@ -1,12 +1,12 @@
 -- What is left of the chunks of a list.
-use Rattle.std.proofs.Common.{◌≡◌, ◌∙◌, ℕ, suc, ◌+◌, ◌<◌, ◌≤◌, Bool, true, false, leb, List, [], ◌∷◌, ◌++◌, length, refl, sym, ap, subst, arith, append_assoc, length-append}
+use Rattle.std.proofs.Common.{◌≡◌, ◌∙◌, ℕ, suc, ◌+◌, ◌-◌, ◌<◌, ◌≤◌, Bool, true, false, leb, List, [], ◌∷◌, ◌++◌, length, take, drop, refl, sym, ap, subst, arith, append_assoc, length-append}
 use Rattle.std.specs.Prelude.{Option, Some, None, nat_le, not, ◌&&◌, if◌then◌else◌}
 use Rattle.std.specs.Str.{bytes_eq}
 use Rattle.part_tree.proofs.Words.{same_length}
 use Rattle.std.specs.List.{flat_map}
 use Rattle.std.specs.declared.result.Result.TheVariants.{Err}
 use Rattle.std.proofs.lemmas.Bool.{le-leb, lt-leb}
-use Rattle.std.proofs.lemmas.List.{append-nil}
+use Rattle.std.proofs.lemmas.List.{append-nil, drop-drop, drop-take}
 use Rattle.part_tree.specs.declared.part.Part.{Part}
 use Rattle.part_tree.specs.declared.part.Role.{Role}
 use Rattle.part_tree.specs.declared.why.Why.{Why}
@@ -15,7 +15,11 @@ use Rattle.part_tree.specs.declared.why.ReadFault.{ReadFault}
 use Rattle.part_tree.specs.declared.why.ReadFault.TheVariants as Fault
 use Rattle.part_tree.specs.declared.names.FourCc.{FourCc}
 use Rattle.part_tree.specs.Letters.{four}
-use Rattle.container_model.specs.Chunk.{Chunk, Run, spell, spell_all, and_then, stopped, ends, passes}
+use Rattle.container_model.specs.Chunk.{Chunk, Run, riff, spell, spell_all, and_then, stopped, ends, passes, chunks}
+use Rattle.container_model.specs.Sizes.{plain, riff_front}
+use Rattle.carrier_model.specs.Info.{list_run}
+use Rattle.riff_form.specs.declared.ChunkAt.{ChunkAt}
+use Rattle.riff_form.specs.Walk.{chunk_in, row}
 use Rattle.container_model.specs.Stood.{stood}
 use Rattle.avi_model.specs.Map.{part, plain_parts}
 use Rattle.avi_model.specs.Reading.{Step, part_at, end_at, part_of}
@@ -125,3 +129,14 @@ no_type t x w short = sym (and_no t (bytes_eq x w) (go (bytes_eq x w) refl))
     go : (s : Bool) → bytes_eq x w ≡ s → s ≡ false
     go false e = refl
     go true e = absurd (omega (arith, same_length x w e))
+
+-- ---- the chunks of a list
+
+pub list_is : (b : List ℕ) (k : ChunkAt) → 4 ≤ k.body.len → k.body.at + k.body.len ≤ length b → list_run (chunk_in b riff k) ≡ row b (k.body.at + 4) (k.body.at + k.body.len)
+list_is b k long inside =
+    let len = k.body.len in
+    let split : len ≡ 4 + (len - 4) = omega arith in
+    let rest : (k.body.at + len) - (k.body.at + 4) ≡ len - 4 = omega arith in
+    ap (λ (n : ℕ). chunks riff_front plain (drop 4 (take n (drop k.body.at b)))) split
+    ∙ ap (chunks riff_front plain) (drop-take 4 (len - 4) (drop k.body.at b) ∙ ap (take (len - 4)) (drop-drop 4 k.body.at b))
+    ∙ ap (λ (n : ℕ). chunks riff_front plain (take n (drop (k.body.at + 4) b))) (sym rest)
