@@ -67,8 +67,8 @@ pub fn sample_place(offset: u64, sizes: &[u32], n: usize) -> Option<u64>
     Some(place)
 }
 
-// The length of a row in the tables that begin with a count, and None for other types.
-fn row_len(kind: FourCc) -> Option<u64>
+/// How many bytes a row has in the tables that begin with a count. None for other types.
+pub fn row_len(kind: FourCc) -> Option<u64>
     ensures len { result ≡ row_len_of kind.0 }
     ensures small { IfSome result (λ len. len ≤ 12) }
 {
