@@ -6,6 +6,8 @@
 mod holder;
 mod reading;
 mod tables;
+#[cfg(test)]
+mod tests;
 mod tests_of;
 mod walk;
 
