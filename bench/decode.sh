@@ -6,10 +6,7 @@
 #   bench/decode.sh
 # METAEDIT names a built program; else the script `metaedit` builds it.
 set -eu
-top=$(CDPATH='' cd -- "$(dirname -- "$0")/.." && pwd)
-. "$top/bench/program.sh"
-folder=$(mktemp -d "$top/.bench.XXXXXX")
-trap 'rm -rf "$folder"' EXIT
+. "$(dirname -- "$0")/program.sh"
 
 wrong() {
     echo "WRONG $*"

@@ -6,12 +6,7 @@
 #   bench/large.sh [FOLDER]     FOLDER is on a disk that knows sparse files; else a new one beside this clone
 # METAEDIT names a built program; else the script `metaedit` builds it.
 set -eu
-top=$(CDPATH='' cd -- "$(dirname -- "$0")/.." && pwd)
-. "$top/bench/program.sh"
-mkdir -p "${1:-$top}"
-folder=$(mktemp -d "${1:-$top}/.bench.XXXXXX")
-trap 'rm -rf "$folder"' EXIT
-folder=$(cd "$folder" && pwd -P) # as strace tells it
+. "$(dirname -- "$0")/program.sh"
 file=$folder/f.wav
 
 wrong() {

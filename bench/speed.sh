@@ -6,11 +6,7 @@
 #   bench/speed.sh [FOLDER]     FOLDER is on the disk to be measured and has 2 GiB free; else a new one beside this clone
 # METAEDIT names a built program; else the script `metaedit` builds it. EDITS (101) and COPIES (3) say how often each is timed.
 set -eu
-top=$(CDPATH='' cd -- "$(dirname -- "$0")/.." && pwd)
-. "$top/bench/program.sh"
-mkdir -p "${1:-$top}"
-folder=$(mktemp -d "${1:-$top}/.bench.XXXXXX")
-trap 'rm -rf "$folder"' EXIT
+. "$(dirname -- "$0")/program.sh"
 plain=$folder/plain
 cc -O2 -o "$plain" "$top/bench/plain.c"
 cd "$folder"

@@ -11,14 +11,15 @@ use Rattle.container_model.specs.Stood.{Stood, only}
 use Rattle.container_model.specs.Units.{shut, units}
 use Rattle.container_model.specs.Written.{Write}
 use Rattle.container_model.proofs.Codec.{IsBytes}
-use Rattle.carrier_model.specs.Room.{units_fit, patched, total}
-use Rattle.carrier_model.specs.Order.{InOrder, InPatch}
+use Rattle.part_tree.specs.Patches.{InOrder, Touches, all_bytes, patched}
+use Rattle.carrier_model.specs.Room.{units_fit}
+use Rattle.carrier_model.specs.Order.{SoundPatches}
 use Rattle.avi_model.specs.Avi.{Avi, avi_of, inner, form_of, behind, spell_avi, has_id, kids, top, others_at, hdrls, strls, stream_indexes, old_indexes, is_movi, essence}
 use Rattle.avi_model.specs.Index.{Table, table_of, How, move, writes, renumbered, is_super, entries, super_place, index_base, entry_offset, entry_length, entry_second, has_second, first_counted, standard_by, index_by, index_body, named, streams, indexes, Base, from_start, base, old_rows, old_body, olds, row_offset, row_length, write_index, write_old}
 use Rattle.avi_model.specs.Support.{Supported, SoundIndex, SoundEntries, SoundEntry, is_index_kind, in_one, movi_spans, size_at, second_lies, SoundRows}
 use Rattle.avi_model.specs.NewFile.{Items, ends_file, new_cells, laid, edit_cuts, laid_file, edited_file}
 use Rattle.avi_model.specs.Edited.{changes, new_file}
-use Rattle.avi_model.specs.Room.{pieces_of, patches_of, patches_by, patches, Room, SoundPatches}
+use Rattle.avi_model.specs.Room.{pieces_of, patches_of, patches_by, patches, Room}
 use Rattle.avi_model.proofs.Numbers.{Whole}
 use Rattle.avi_model.proofs.Walk.{IsRiffHead}
 use Rattle.avi_model.proofs.Entries.{super_kind, standard_kind, super_index, standard_index, entry_long, place_named, first_is}
@@ -171,16 +172,16 @@ module _ (o : List ℕ) (bytes : IsBytes o) (s : Supported o) (e : Items) (fits 
       ∙ laid_patched a e fits ∙ sym laid_same
 
   -- They are in order, and cover what the file gains.
-  pub laid_ordered : InOrder 0 (patches_of (avi_of o) e) (length (laid_file o e))
-  laid_ordered = subst (λ (x : List ℕ). InOrder 0 (patches_of a e) (length x)) (sym laid_same) (ordered a e fits)
+  pub laid_ordered : InOrder (length (laid_file o e)) 0 (patches_of (avi_of o) e)
+  laid_ordered = subst (λ (x : List ℕ). InOrder (length x) 0 (patches_of a e)) (sym laid_same) (ordered a e fits)
 
-  pub laid_covered : (q : ℕ) → length o ≤ q → q < length (laid_file o e) → InPatch q (patches_of (avi_of o) e)
+  pub laid_covered : (q : ℕ) → length o ≤ q → q < length (laid_file o e) → Touches q (patches_of (avi_of o) e)
   laid_covered q low high = covered a e fits q (omega (arith, low, ap length (is_file o bytes s))) (omega (arith, high, ap length laid_same))
 
 -- For an edit of fields: no number changes, and its patches make its new file.
 module _ (o : List ℕ) (bytes : IsBytes o) (s : Supported o) (e : List EditItem) (r : Room o e) where
-  room : (units_fit (ends_file (avi_of o)) (pieces_of (avi_of o) (changes o e)) ≡ true) × (nat_le (total (patches o e)) (2 ^ 24) ≡ true)
-  room = and_parts (units_fit (ends_file (avi_of o)) (pieces_of (avi_of o) (changes o e))) (nat_le (total (patches o e)) (2 ^ 24)) r
+  room : (units_fit (ends_file (avi_of o)) (pieces_of (avi_of o) (changes o e)) ≡ true) × (nat_le (all_bytes (patches o e)) (2 ^ 24) ≡ true)
+  room = and_parts (units_fit (ends_file (avi_of o)) (pieces_of (avi_of o) (changes o e))) (nat_le (all_bytes (patches o e)) (2 ^ 24)) r
 
   pub edit_stays : renumbered (move (shift (edit_cuts (avi_of o) (changes o e)))) o ≡ o
   edit_stays = numbers_stay o bytes s (changes o e) room.0
@@ -196,9 +197,9 @@ module _ (o : List ℕ) (bytes : IsBytes o) (s : Supported o) (e : List EditItem
       go (i ∷ t) d = sym (made o bytes s (i ∷ t) (fit_of (i ∷ t) d))
 
   pub patches_sound : SoundPatches (length o) (length (new_file o e)) (patches o e)
-  patches_sound = record { in_order = (both (changes o e) refl).0; few_bytes = leb-true (total (patches o e)) (2 ^ 24) room.1; cover = (both (changes o e) refl).1 }
+  patches_sound = record { in_order = (both (changes o e) refl).0; few_bytes = leb-true (all_bytes (patches o e)) (2 ^ 24) room.1; cover = (both (changes o e) refl).1 }
     where
       both : (x : Items) → changes o e ≡ x
-          → InOrder 0 (patches_by (avi_of o) x) (length (edited_file o x)) × ((q : ℕ) → length o ≤ q → q < length (edited_file o x) → InPatch q (patches_by (avi_of o) x))
-      both [] d = (omega arith, λ q low high. absurd (omega arith))
+          → InOrder (length (edited_file o x)) 0 (patches_by (avi_of o) x) × ((q : ℕ) → length o ≤ q → q < length (edited_file o x) → Touches q (patches_by (avi_of o) x))
+      both [] d = (tt, λ q low high. absurd (omega arith))
       both (i ∷ t) d = (laid_ordered o bytes s (i ∷ t) (fit_of (i ∷ t) d), laid_covered o bytes s (i ∷ t) (fit_of (i ∷ t) d))

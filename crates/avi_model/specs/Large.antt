@@ -4,16 +4,12 @@ use Rattle.std.specs.List.{flat_map}
 use Rattle.part_tree.specs.declared.field.EditItem.{EditItem}
 use Rattle.container_model.specs.Splice.{shift}
 use Rattle.container_model.specs.Stood.{Stood}
+use Rattle.carrier_model.specs.Large.{Size}
 use Rattle.avi_model.specs.Avi.{Avi, avi_of, inner, spell_avi}
 use Rattle.avi_model.specs.Index.{Table, move, renumbered, is_super, entries, entry_offset, entry_length, entry_second, has_second, index_base, first_counted, row_offset, row_length, Base, from_start, from_movi, base, old_rows, indexes, olds}
 use Rattle.avi_model.specs.Support.{infos, parts, part_limit, list_limit}
 use Rattle.avi_model.specs.Edited.{changes}
 use Rattle.avi_model.specs.NewFile.{Items, laid, edit_cuts}
-
--- a size or a place, and the limit that it passes
-pub record Size : Type 0 where
-  pub size : ℕ
-  pub limit : ℕ
 
 -- a test, and what is told where it fails
 pub record Check : Type 0 where

@@ -1,12 +1,12 @@
 -- When an edit has room in place, and what is then written (this project's own).
-use Rattle.std.specs.Prelude.{ℕ, ◌^◌, ◌≡◌, ◌≤◌, ◌<◌, nat_le, ◌==◌, List, [], ◌∷◌, ◌++◌, length, true, Bool, ◌&&◌, if◌then◌else◌}
+use Rattle.std.specs.Prelude.{ℕ, ◌^◌, ◌≡◌, nat_le, ◌==◌, List, [], ◌∷◌, ◌++◌, length, true, Bool, ◌&&◌, if◌then◌else◌}
 use Rattle.std.specs.Int.{w32, to_le_bytes}
 use Rattle.part_tree.specs.declared.field.EditItem.{EditItem}
 use Rattle.part_tree.specs.declared.plan.Patch.{Patch}
+use Rattle.part_tree.specs.Patches.{all_bytes}
 use Rattle.container_model.specs.Units.{Piece, shut, units}
 use Rattle.carrier_model.specs.Info.{riff_fill}
-use Rattle.carrier_model.specs.Order.{InOrder, InPatch}
-use Rattle.carrier_model.specs.Room.{units_fit, patch, unit_patches, total}
+use Rattle.carrier_model.specs.Room.{units_fit, patch, unit_patches}
 use Rattle.avi_model.specs.Avi.{Avi, avi_of, inner}
 use Rattle.avi_model.specs.NewFile.{Items, ends_file, new_cells, new_children}
 use Rattle.avi_model.specs.Edited.{changes}
@@ -34,14 +34,8 @@ patches o e = patches_by (avi_of o) (changes o e)
 
 -- every unit fits its slot, and the patches have at most 16 MiB
 abbrev pub has_room : List ℕ → List EditItem → Bool
-has_room o e = units_fit (ends_file (avi_of o)) (pieces_of (avi_of o) (changes o e)) && nat_le (total (patches o e)) (2 ^ 24)
+has_room o e = units_fit (ends_file (avi_of o)) (pieces_of (avi_of o) (changes o e)) && nat_le (all_bytes (patches o e)) (2 ^ 24)
 
 -- the edit has room in place
 abbrev pub Room : List ℕ → List EditItem → Type 0
 Room o e = has_room o e ≡ true
-
--- Patches in order that lie in a file's new length, have at most 16 MiB, and cover what it gains.
-pub record SoundPatches (old new : ℕ) (ps : List Patch) : Type 0 where
-  pub in_order : InOrder 0 ps new
-  pub few_bytes : total ps ≤ 2 ^ 24
-  pub cover : (q : ℕ) → old ≤ q → q < new → InPatch q ps

@@ -10,7 +10,8 @@ ghost use Rattle.part_tree.specs.declared.field.EditItem.{EditItem};
 ghost use Rattle.part_tree.specs.declared.field.RuleSet.TheVariants.{Base};
 ghost use Rattle.part_tree.specs.declared.names.Kind.TheVariants.{Avi};
 ghost use Rattle.field_model.specs.Broken.{broken};
-ghost use Rattle.carrier_model.specs.Room.{patched};
+ghost use Rattle.part_tree.specs.Patches.{laid};
+ghost use Rattle.carrier_model.specs.Order.{SoundPatches};
 ghost use Rattle.avi_model.specs.Avi.{avi_of, inner, essence};
 ghost use Rattle.avi_model.specs.Index.{olds, move, renumbered};
 ghost use Rattle.avi_model.specs.Support.{Supported, parts};
@@ -18,7 +19,7 @@ ghost use Rattle.avi_model.specs.Why.{why};
 ghost use Rattle.avi_model.specs.NewFile.{Items, edit_cuts, with_size, moves, laid_file, table_cuts};
 ghost use Rattle.avi_model.specs.Edited.{Edited, changes, fields, new_file};
 ghost use Rattle.avi_model.specs.Large.{too_large, new_avi};
-ghost use Rattle.avi_model.specs.Room.{Room, SoundPatches, patches};
+ghost use Rattle.avi_model.specs.Room.{Room, patches};
 ghost use Rattle.avi_model.specs.Map.{parts_of, bytes_in, essence_spans, table_span, supers, standards};
 
 use part_tree as _;
@@ -50,7 +51,7 @@ pub fn new_is_spliced()
 /// make the new file. They are in order, lie in the new file, have at most 16 MiB, and cover what the file gains.
 pub fn patches_make_new()
     ensures stay { (o : List ℕ) (e : List EditItem) → IsBytes o → Supported o → Room o e → renumbered (move (moves o (changes o e))) o ≡ o }
-    ensures made { (o : List ℕ) (e : List EditItem) → IsBytes o → Supported o → Room o e → new_file o e ≡ take (length (new_file o e)) (patched (patches o e) o) }
+    ensures made { (o : List ℕ) (e : List EditItem) → IsBytes o → Supported o → Room o e → new_file o e ≡ laid (length (new_file o e)) (patches o e) o }
     ensures sound { (o : List ℕ) (e : List EditItem) → IsBytes o → Supported o → Room o e → SoundPatches (length o) (length (new_file o e)) (patches o e) }
 {}
 

@@ -4,5 +4,6 @@ pub mod Info
 pub mod Views
 pub mod Quiet
 pub mod Renewed
+pub mod Patches
+pub mod Fitted
 pub mod Room
-pub mod Order

@@ -1,13 +1,10 @@
--- Patches in order, and the places that they cover (this project's own).
-use Rattle.std.specs.Prelude.{ℕ, ◌+◌, ◌≤◌, ◌<◌, ◌⊎◌, List, [], ◌∷◌, length}
+-- What the patches of an edit in place keep, whatever the kind of file (this project's own).
+use Rattle.std.specs.Prelude.{ℕ, ◌≤◌, ◌<◌, List}
 use Rattle.part_tree.specs.declared.plan.Patch.{Patch}
+use Rattle.part_tree.specs.Patches.{most_bytes, InOrder, all_bytes, Touches}
 
--- each has a byte, begins at or behind a place and the end of the one before it, and ends at or before another place
-abbrev pub InOrder : ℕ → List Patch → ℕ → Type 0
-InOrder from [] end = from ≤ end
-InOrder from (p ∷ ps) end = (from ≤ p.at) × (1 ≤ length p.bytes) × InOrder (p.at + length p.bytes) ps end
-
--- a place lies in one of them
-abbrev pub InPatch : ℕ → List Patch → Type 0
-InPatch q [] = ⊥
-InPatch q (p ∷ ps) = ((p.at ≤ q) × (q < p.at + length p.bytes)) ⊎ InPatch q ps
+-- Patches in order that lie in a file's new length, have at most 16 MiB, and cover what it gains.
+pub record SoundPatches (old new : ℕ) (ps : List Patch) : Type 0 where
+  pub in_order : InOrder new 0 ps
+  pub few_bytes : all_bytes ps ≤ most_bytes
+  pub cover : (q : ℕ) → old ≤ q → q < new → Touches q ps

@@ -1,5 +1,5 @@
 -- Which units of an edit fit their slots in RIFF, and the patches that make them there (this project's own).
-use Rattle.std.specs.Prelude.{ℕ, ◌+◌, ◌-◌, ◌%◌, ◌^◌, List, [], ◌∷◌, ◌++◌, length, take, drop, Bool, true, ◌&&◌, ◌||◌, ◌==◌, nat_le, nat_lt}
+use Rattle.std.specs.Prelude.{ℕ, ◌+◌, ◌-◌, ◌%◌, ◌^◌, List, [], ◌∷◌, ◌++◌, length, take, Bool, true, ◌&&◌, ◌||◌, ◌==◌, nat_le, nat_lt}
 use Rattle.part_tree.specs.declared.plan.Patch.{Patch}
 use Rattle.container_model.specs.Chunk.{Chunk, spell, spell_all}
 use Rattle.container_model.specs.Units.{Piece, copied, replaced, Fill, unit_bytes}
@@ -37,17 +37,3 @@ unit_patches fill at [] = []
 unit_patches fill at (copied c ∷ ps) = unit_patches fill (at + length (spell c)) ps
 unit_patches fill at (replaced lead slot now last ∷ ps) =
     patch (at + length (spell_all lead)) (unit_patch fill lead slot now last) ++ unit_patches fill (at + length (spell_all lead ++ slot)) ps
-
--- the bytes of all patches together
-abbrev pub total : List Patch → ℕ
-total [] = 0
-total (p ∷ ps) = length p.bytes + total ps
-
--- bytes from a place on, over what was there
-abbrev pub overlay : ℕ → List ℕ → List ℕ → List ℕ
-overlay at bytes old = take at old ++ (bytes ++ drop (at + length bytes) old)
-
--- the patches laid over a file, one after another
-abbrev pub patched : List Patch → List ℕ → List ℕ
-patched [] b = b
-patched (p ∷ ps) b = patched ps (overlay p.at p.bytes b)

@@ -1,17 +1,20 @@
 -- The worked plans are plans for the worked file.
-use Rattle.std.proofs.Common.{◌≡◌, inl, inr, List, refl, arith, lit<, subst, sym}
+use Rattle.std.proofs.Common.{◌≡◌, ap, inl, inr, List, refl, arith, lit<, subst, sym}
 use Rattle.part_tree.specs.declared.plan.Patch.{Patch}
 use Rattle.part_tree.specs.declared.plan.Segment.{Segment}
 use Rattle.part_tree.specs.declared.plan.Plan.TheVariants.{InPlace, Rewrite}
 use Rattle.me_disk.specs.Disk.{Disk}
+use Rattle.edit_journal.specs.Journal.{Journal}
 use Rattle.edit_journal.specs.Settled.{StandsAlone}
 use Rattle.file_swap.specs.Swap.{Swapping, fresh, Underway}
 use Rattle.file_swap.proofs.Installs.{begins}
 use Rattle.part_tree.specs.Plans.{CanRun, Belongs}
-use Rattle.crash_rows.specs.Worked.{file, in_place, rewrite}
+use Rattle.edit_journal.specs.Journal.Journal.{version_1}
+use Rattle.crash_rows.specs.declared.bytes.TheConstants.{JOURNAL}
+use Rattle.crash_rows.specs.Worked.{file, patches, in_place, rewrite}
 
 pub rules : CanRun in_place
-unfolding in_place
+unfolding in_place patches
 rules = record {
   old_fits = lit< tt;
   new_fits = lit< tt;
@@ -22,7 +25,7 @@ rules = record {
 }
 
 pub in_place_belongs : Belongs in_place file
-unfolding file in_place
+unfolding file in_place patches
 in_place_belongs = record { can = rules; file = refl }
 
 pub adds_up : CanRun rewrite
@@ -33,8 +36,9 @@ pub rewrite_belongs : Belongs rewrite file
 unfolding file rewrite
 rewrite_belongs = record { can = adds_up; file = ((omega arith, (tt, (tt, (omega arith, (omega arith, (tt, tt)))))), lit< tt) }
 
-pub can_patch : (ps : List Patch) → InPlace 48 72 ps ≡ in_place → CanRun (InPlace 48 72 ps)
-can_patch ps is = subst CanRun (sym is) rules
+pub can_patch : (ps : List Patch) → ps ≡ patches → CanRun (InPlace 48 72 ps)
+unfolding in_place
+can_patch ps is = subst (λ (qs : List Patch). CanRun (InPlace 48 72 qs)) (sym is) rules
 
 pub can_rewrite : (ss : List Segment) → Rewrite 72 ss ≡ rewrite → CanRun (Rewrite 72 ss)
 can_rewrite ss is = subst CanRun (sym is) adds_up
@@ -44,3 +48,11 @@ in_place_begins s d is alone = subst (λ (x : Swapping). Underway x file d) (sym
 
 pub rewrite_begins : (s : Swapping) (d : Disk) → s ≡ fresh rewrite → StandsAlone file d → Underway s file d
 rewrite_begins s d is alone = subst (λ (x : Swapping). Underway x file d) (sym is) (begins d rewrite file alone (λ tells. rewrite_belongs))
+
+pub in_place_is : (ps : List Patch) → ps ≡ patches → InPlace 48 72 ps ≡ in_place
+unfolding in_place
+in_place_is ps is = ap (λ (qs : List Patch). InPlace 48 72 qs) is
+
+pub journal_is : Journal JOURNAL 48 72 patches
+unfolding in_place patches
+journal_is = version_1 (record { is = refl; rules = rules })

@@ -1,6 +1,7 @@
 // The bytes of a worked edit: a title in a WAVE file with four bytes of sound.
 ghost use Rattle.std.specs.Prelude.{◌≡◌, IfOk};
-ghost use Rattle.crash_rows.specs.Worked.{file};
+ghost use Rattle.edit_journal.specs.Journal.{Journal};
+ghost use Rattle.crash_rows.specs.Worked.{file, patches, titled_file};
 
 use part_tree::NoMemory;
 use std::alloc::Global;
@@ -45,11 +46,15 @@ pub fn file_bytes(alloc: Global) -> Result<Vec<u8>, NoMemory>
 }
 
 /// The file after it.
-pub fn titled() -> &'static [u8] {
+pub fn titled() -> &'static [u8]
+    ensures { result.now ≡ titled_file }
+{
     &TITLED
 }
 
 /// The journal of the edit in place.
-pub fn journal_bytes(alloc: Global) -> Result<Vec<u8>, NoMemory> {
+pub fn journal_bytes(alloc: Global) -> Result<Vec<u8>, NoMemory>
+    ensures { IfOk result (λ v. Journal v.items 48 72 patches) }
+{
     Ok(JOURNAL.to_vec(alloc)?)
 }

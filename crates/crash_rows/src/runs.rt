@@ -1,12 +1,20 @@
 // Runs of a worked edit over a depot in memory.
-ghost use Rattle.std.specs.Prelude.{◌≡◌, IfOk, IsSome};
+ghost use Rattle.std.specs.Prelude.{◌≡◌, ◌↔◌, IfErr, IfOk, IsSome, IsTrue, None, OnOk, Some};
 ghost use Rattle.part_tree.specs.declared.plan.Segment.TheVariants.{Copy};
 ghost use Rattle.part_tree.specs.declared.plan.Plan.TheVariants.{InPlace, Rewrite};
-ghost use Rattle.me_disk.specs.Disk.{Only, read_as};
-ghost use Rattle.me_disk.specs.Memory.{memory_disk};
-ghost use Rattle.edit_journal.specs.Settled.{StandsAlone};
+ghost use Rattle.part_tree.specs.Plans.{applied};
+ghost use Rattle.me_disk.specs.Disk.{held, Leaves, Only, read_as};
+ghost use Rattle.me_disk.specs.Memory.{items_of, memory_disk};
+ghost use Rattle.me_disk.specs.Steps.{ReadsOnly};
+ghost use Rattle.edit_journal.specs.Damage.{damage_over};
+ghost use Rattle.edit_journal.specs.Journal.{Journal};
+ghost use Rattle.edit_journal.specs.Reads.{OnDamaged};
+ghost use Rattle.edit_journal.specs.Settled.{Settles, StandsAlone};
+ghost use Rattle.file_swap.specs.Midway.{SettlesEither};
 ghost use Rattle.file_swap.specs.Swap.{fresh};
-ghost use Rattle.crash_rows.specs.Worked.{file, in_place, rewrite};
+ghost use Rattle.recovery.specs.Recovered.{IsRefusal, Recovers};
+ghost use Rattle.recovery.specs.Redo.{SettlesAlike};
+ghost use Rattle.crash_rows.specs.Worked.{file, in_place, patches, rewrite, zeros, IsJournalOf};
 
 use crate::bytes::{LIST, SIZE, file_bytes, journal_bytes};
 use edit_journal::{JournalFault, JournalHead, check_journal, spell_journal};
@@ -23,7 +31,7 @@ const AMPLE: Room = Room {
 
 /// The patches of the edit in place.
 pub fn patches_in_place(alloc: Global) -> Result<Patches, NoMemory>
-    ensures { IfOk result (λ ps. InPlace 48 72 ps ≡ in_place) }
+    ensures { IfOk result (λ ps. ps ≡ patches) }
 {
     let size = Patch {
         at: 4,
@@ -53,7 +61,9 @@ pub fn edit_in_place(alloc: Global) -> Result<Swap, NoMemory>
 }
 
 /// The journal of the edit in place.
-pub fn spell_in_place(alloc: Global) -> Result<Bytes, NoMemory> {
+pub fn spell_in_place(alloc: Global) -> Result<Bytes, NoMemory>
+    ensures { IfOk result (λ b. Journal b 48 72 patches) }
+{
     let patches = patches_in_place(alloc)?;
     spell_journal(alloc, 48, 72, patches.as_slice())
 }
@@ -101,7 +111,8 @@ pub fn depot_with(
     journal: Vec<u8>,
     failing: Vec<FailAt>,
 ) -> Result<MemoryDepot, NoMemory>
-    ensures journal { IfOk result (λ d. IsSome (memory_disk d).slots.journal) }
+    ensures main { IfOk result (λ d. (memory_disk d).slots.main ≡ items_of main) }
+    ensures journal { IfOk result (λ d. (memory_disk d).slots.journal ≡ Some journal.items) }
     ensures only { IfOk result (λ d. Only (read_as (memory_disk d).slots) (memory_disk d)) }
 {
     MemoryDepot::new(alloc, main, Some(journal), AMPLE, failing)
@@ -119,6 +130,8 @@ pub fn stop(depot: &mut MemoryDepot, n: u64)
 pub fn run_in_place<D: Depot>(depot: &mut D, swap: Swap) -> bool
     requires alone { StandsAlone file (D.disk depot.old) }
     requires swap { swap ≡ fresh in_place }
+    ensures done { IsTrue result → StandsAlone (applied in_place file) (D.disk depot.new) }
+    ensures crash { Leaves (SettlesEither file (applied in_place file)) (D.disk depot.old) (D.disk depot.new) }
 {
     swap.run(depot).is_ok()
 }
@@ -127,6 +140,8 @@ pub fn run_in_place<D: Depot>(depot: &mut D, swap: Swap) -> bool
 pub fn run_rewrite<D: Depot>(depot: &mut D, swap: Swap) -> bool
     requires alone { StandsAlone file (D.disk depot.old) }
     requires swap { swap ≡ fresh rewrite }
+    ensures done { IsTrue result → StandsAlone (applied rewrite file) (D.disk depot.new) }
+    ensures crash { Leaves (SettlesEither file (applied rewrite file)) (D.disk depot.old) (D.disk depot.new) }
 {
     swap.run(depot).is_ok()
 }
@@ -173,6 +188,9 @@ pub fn stopped_recovery(mut depot: MemoryDepot, n: u64, pick: Pick) -> MemoryDep
 /// What a recovery of the depot answers.
 pub fn recovery_of(depot: &mut MemoryDepot) -> Result<Recovered, RecoverFault>
     requires { Only (read_as (memory_disk depot.old).slots) (memory_disk depot.old) }
+    ensures done { OnOk result (Recovers (memory_disk depot.old) (memory_disk depot.new)) }
+    ensures refusal { IfErr result (λ e. IsRefusal e → ReadsOnly (memory_disk depot.old) (memory_disk depot.new)) }
+    ensures crash { Leaves (SettlesAlike (read_as (memory_disk depot.old).slots)) (memory_disk depot.old) (memory_disk depot.new) }
 {
     recover(depot)
 }
@@ -180,20 +198,43 @@ pub fn recovery_of(depot: &mut MemoryDepot) -> Result<Recovered, RecoverFault>
 /// Whether a recovery is done, and leaves this file alone.
 pub fn is_recovered(mut depot: MemoryDepot, want: &[u8]) -> bool
     requires { Only (read_as (memory_disk depot).slots) (memory_disk depot) }
+    ensures { IsTrue result → Settles (Some want.now) (read_as (memory_disk depot).slots) }
 {
     recovery_of(&mut depot).is_ok() && holds_alone(&depot, want)
 }
 
 /// Whether the depot holds this file and nothing else.
-pub fn holds_alone(depot: &MemoryDepot, want: &[u8]) -> bool {
+pub fn holds_alone(depot: &MemoryDepot, want: &[u8]) -> bool
+    ensures { IsTrue result ↔ ((memory_disk depot.now).slots ≡ record { main = Some want.now; journal = None; work = None }) }
+{
+    holds(depot, want) && !has(depot, Slot::Journal) && !has(depot, Slot::Work)
+}
+
+// Whether the file in the depot is this one.
+fn holds(depot: &MemoryDepot, want: &[u8]) -> bool
+    ensures { IsTrue result ↔ ((memory_disk depot.now).slots.main ≡ Some want.now) }
+{
     match depot.content(Slot::Main) {
-        Some(main) => main == want && !has(depot, Slot::Journal) && !has(depot, Slot::Work),
+        Some(main) => main == want,
         None => false,
     }
 }
 
-fn has(depot: &MemoryDepot, slot: Slot) -> bool {
+// Whether there is something in a slot.
+fn has(depot: &MemoryDepot, slot: Slot) -> bool
+    ensures { IsTrue result ↔ IsSome (held slot (memory_disk depot.now).slots) }
+{
     depot.content(slot).is_some()
+}
+
+// A file of so many zeros.
+fn zero_file(alloc: Global, len: Option<usize>) -> Result<Option<Vec<u8>>, NoMemory>
+    ensures { IfOk result (λ main. items_of main ≡ zeros len) }
+{
+    match len {
+        Some(len) => Ok(Some(vec![in alloc; 0; len]?)),
+        None => Ok(None),
+    }
 }
 
 /// What a check answers for a journal beside a file of so many bytes, or beside none.
@@ -201,11 +242,12 @@ pub fn check_of(
     alloc: Global,
     len: Option<usize>,
     journal: Vec<u8>,
-) -> Result<Result<JournalHead, JournalFault>, NoMemory> {
-    let main = match len {
-        Some(len) => Some(vec![in alloc; 0; len]?),
-        None => None,
-    };
+) -> Result<Result<JournalHead, JournalFault>, NoMemory>
+    ensures whole { IfOk result (λ answer. OnOk answer (damage_over (zeros len) journal.items ≡ None)) }
+    ensures head { IfOk result (λ answer. IfOk answer (λ head. IsJournalOf head journal.items)) }
+    ensures damaged { IfOk result (λ answer. IfErr answer (λ e. OnDamaged e (λ at. damage_over (zeros len) journal.items ≡ Some at))) }
+{
+    let main = zero_file(alloc, len)?;
     let mut depot = depot_with(alloc, main, journal, Vec::new(alloc))?;
     Ok(check_journal(&mut depot))
 }
@@ -220,7 +262,9 @@ pub fn broken_off(alloc: Global, failing: Vec<FailAt>) -> Result<MemoryDepot, No
 }
 
 /// The edit in place of which one call fails, and whether it was done.
-pub fn failing_edit(alloc: Global, failing: Vec<FailAt>) -> Result<(MemoryDepot, bool), NoMemory> {
+pub fn failing_edit(alloc: Global, failing: Vec<FailAt>) -> Result<(MemoryDepot, bool), NoMemory>
+    ensures { IfOk result (λ run. IsTrue run.1 → StandsAlone (applied in_place file) (memory_disk run.0)) }
+{
     let mut depot = depot_of(alloc, failing)?;
     let swap = edit_in_place(alloc)?;
     let done = run_in_place(&mut depot, swap);
@@ -228,7 +272,9 @@ pub fn failing_edit(alloc: Global, failing: Vec<FailAt>) -> Result<(MemoryDepot,
 }
 
 /// The rewrite, and whether it was done.
-pub fn whole_rewrite(alloc: Global) -> Result<(MemoryDepot, bool), NoMemory> {
+pub fn whole_rewrite(alloc: Global) -> Result<(MemoryDepot, bool), NoMemory>
+    ensures { IfOk result (λ run. IsTrue run.1 → StandsAlone (applied rewrite file) (memory_disk run.0)) }
+{
     let mut depot = depot_of(alloc, Vec::new(alloc))?;
     let swap = edit_by_rewrite(alloc)?;
     let done = run_rewrite(&mut depot, swap);

@@ -10,3 +10,4 @@ pub mod Sizes
 pub mod ListSizes
 pub mod Unmet
 pub mod Ready
+pub mod Formed

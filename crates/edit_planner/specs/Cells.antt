@@ -81,6 +81,7 @@ IsFine (name.Whole id) None = Unit {0}
 IsFine (name.Whole id) (Some v) = (v.lang ≡ 0) × (length v.raw ≤ 2 ^ 24)
 IsFine (name.User id) value = ⊥
 
+-- the same of each change
 abbrev pub AreFine : List RawChange → Type 0
 AreFine changes = AllByRecursion (λ c. IsFine c.name c.value) changes
 
@@ -95,6 +96,7 @@ IsReadable (Kept id role) = Unit {0}
 IsReadable Gap = Unit {0}
 IsReadable (Edited now parts) = Unit {0}
 
+-- the same of each cell
 abbrev pub AreReadable : List CellAt → Type 0
 AreReadable xs = AllByRecursion (λ x. IsReadable x.content) xs
 

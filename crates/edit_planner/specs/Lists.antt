@@ -46,6 +46,7 @@ home_from n tss name = if some_hold name tss then n + first_holder name tss else
 abbrev pub homed_as : (List ℕ → ℕ) → Item (List ℕ) → Homed
 homed_as h i = record { id = four i.name; value = i.value; home = h i.name }
 
+-- all items of an edit so
 abbrev pub homed_of : (List ℕ → ℕ) → List (Item (List ℕ)) → List Homed
 homed_of h e = map (homed_as h) e
 
@@ -64,6 +65,7 @@ concerned n ts (i ∷ is) = (has_mark i.id.0 ts || (i.home == n)) || concerned n
 abbrev pub part_as : ℕ → Homed → Item (List ℕ)
 part_as n i = record { name = i.id.0; value = if i.home == n then i.value else None }
 
+-- what all fields become in the list of a number
 abbrev pub part_in : ℕ → List Homed → List (Item (List ℕ))
 part_in n is = map (part_as n) is
 
@@ -71,7 +73,7 @@ part_in n is = map (part_as n) is
 abbrev pub changed_list : List (Item (List ℕ)) → InfoList → Chunk
 changed_list e list = list_of (put_all info_items e (chunks_of list)) list.rest
 
--- a list by its number
+-- what becomes of a cell that holds the list of a number; one that holds no list stays
 abbrev pub list_edited_by : List Homed → ℕ → CellAt → Content → CellAt
 list_edited_by is n x (Listed list) = if concerned n (tokens_of list) is then edited_at x (changed_list (part_in n is) list ∷ []) else x
 list_edited_by is n x Gap = x
@@ -79,6 +81,7 @@ list_edited_by is n x (Kept id role) = x
 list_edited_by is n x (Body body) = x
 list_edited_by is n x (Edited now parts) = x
 
+-- the same by what the cell itself holds
 abbrev pub list_edited : List Homed → ℕ → CellAt → CellAt
 list_edited is n x = list_edited_by is n x x.content
 
@@ -110,6 +113,7 @@ IsLarge size Memory = Unit {0}
 
 -- ---- a new list
 
+-- the chunk of a list in which only an edit has put items
 abbrev pub fresh_list : List (Item (List ℕ)) → Chunk
 fresh_list e = list_of (put_all info_items e []) []
 
@@ -118,6 +122,7 @@ abbrev pub IsNewList : List (Item (List ℕ)) → Option Content → Type 0
 IsNewList e None = sets_some e ≡ false
 IsNewList e (Some content) = (sets_some e ≡ true) × (content ≡ Edited (spell_all (fresh_list e ∷ [])) (parts_in part_count (fresh_list e ∷ [])))
 
+-- the length of a new list, where there is one
 abbrev pub new_sizes : List (Item (List ℕ)) → List Size
 new_sizes e = if sets_some e then limited (2 ^ 24) (length (fresh_list e).body) ∷ [] else []
 

@@ -23,11 +23,12 @@ abbrev pub is_sizes : Role → Bool
 is_sizes Sizes = true
 is_sizes _ = false
 
--- how many parts stand before the children of a form, and where these begin
+-- how many parts stand before the children of a form: `ds64`, or none
 abbrev pub first_child : List Part → ℕ
 first_child [] = 0
 first_child (p ∷ ps) = if is_sizes p.role then 1 else 0
 
+-- where the children of a form begin: behind `ds64`, or at 12
 abbrev pub begins_at : List Part → ℕ
 begins_at [] = 12
 begins_at (p ∷ ps) = if is_sizes p.role then p.next else 12

@@ -88,10 +88,11 @@ edited_at x now = record { at = x.at; next = x.next; lacks_pad = false; content 
 abbrev pub new_at : Content → ℕ → CellAt
 new_at content at = record { at = at; next = at; lacks_pad = false; content = content }
 
--- A new cell goes before `fmt `, where it is to, and else behind all but padding.
+-- whether a new cell goes before this one: it is `fmt `, where it is to stand before that, or only padding stands from here on
 abbrev pub stops : Bool → CellAt → List CellAt → Bool
 stops before_format x xs = (before_format && is_format x.content) || (is_gap x.content && all_gaps xs)
 
+-- A new cell goes before `fmt `, where it is to, and else behind all but padding.
 abbrev pub put_new : Bool → (ℕ → CellAt) → ℕ → List CellAt → List CellAt
 put_new before_format new from [] = new from ∷ []
 put_new before_format new from (x ∷ xs) = if stops before_format x xs then new from ∷ (x ∷ xs) else x ∷ put_new before_format new x.next xs

@@ -8,6 +8,7 @@ ghost use Rattle.part_tree.specs.Fields.{values};
 ghost use Rattle.field_model.specs.Broken.{is_wave};
 ghost use Rattle.part_tree.specs.Plans.{Belongs, CanRun};
 ghost use Rattle.wave_file.specs.Map.{IsMapOf, IsSound};
+ghost use Rattle.wave_plan.specs.Frame.{IsFormOf, IsSoundForm};
 ghost use Rattle.wave_plan.specs.Planned.{PlansEdit};
 ghost use Rattle.edit_planner.specs.Plan.{IsReady, Maps, SoundMap, fields_in, kind_in};
 
@@ -17,7 +18,7 @@ use me_disk::Depot;
 use part_tree::{Kind, Plan};
 use std::alloc::Global;
 use wave_file::WaveMap;
-use wave_plan::{PlanFault, plan_row};
+use wave_plan::{FormAt, PlanFault, plan_row};
 
 const MOST_BYTES: u64 = 16_777_216;
 
@@ -34,6 +35,19 @@ fn is_wave(kind: Kind) -> bool
     match kind {
         Kind::Wave | Kind::Rf64 => true,
         _ => false,
+    }
+}
+
+// Where the form stands that a map tells.
+fn form_of(wave: &WaveMap) -> FormAt
+    ensures form { (b : List ℕ) → IsMapOf b wave.now → IsFormOf b result }
+    ensures sound { IsSound wave.now → IsSoundForm result }
+    ensures end { result.end ≡ wave.now.form_end }
+{
+    FormAt {
+        big: wave.ds64.is_some(),
+        len: wave.len,
+        end: wave.form_end,
     }
 }
 
@@ -94,7 +108,8 @@ fn plan_wave<D: Depot>(
         Err(PlaceFault::Memory) => return Err(PlanFault::Memory),
         Ok(row) => row,
     };
-    let plan = match plan_row(alloc, depot, wave, &row.places, row.from, row.end) {
+    let form = form_of(wave);
+    let plan = match plan_row(alloc, depot, form, &row.places, row.from, row.end) {
         Err(fault) => return Err(fault),
         Ok(plan) => plan,
     };

@@ -1,4 +1,5 @@
 pub mod Fits
+pub mod Kept
 pub mod Raised
 pub mod Ranges
 mod Rows

@@ -19,7 +19,8 @@ use Rattle.container_model.specs.Units.{Piece, copied, lay, replaced, shut, soli
 use Rattle.mov_model.proofs.Again.{kids, kids_bytes, kids_joined, laid_alike, moov_again, moov_left, moov_padless, mov, move, now}
 use Rattle.mov_model.proofs.Cells.{gaps_carried, gaps_read, solids_carried, solids_map, was_carried, was_read}
 use Rattle.mov_model.proofs.Held.{NoMdat, held_moves}
-use Rattle.mov_model.proofs.Laid.{grown_brings, grown_new, grown_old, last_units}
+use Rattle.carrier_model.proofs.Fitted.{last_units}
+use Rattle.mov_model.proofs.Laid.{grown_brings, grown_new, grown_old}
 use Rattle.mov_model.proofs.Parts.{KidWhole, UserWhole, edited_relocated, first_user_relocated, items_all, nodes_all, nodes_relocated, tracks_all, tracks_relocated}
 use Rattle.mov_model.proofs.Tables.{all_long, moved_table, places_moved, relocated_id, relocated_pad, relocated_tables, samples_moved}
 use Rattle.mov_model.specs.Atoms.{atom, atoms_in, cell_of, format, is, is_padding, moov}

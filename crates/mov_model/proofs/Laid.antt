@@ -1,40 +1,13 @@
 -- How long what is laid is, where the last slot goes on behind moov.
 use Rattle.std.proofs.Common.{Bool, List, [], ap, append_assoc, arith, false, length, map, refl, sym, true, ℕ, ◌++◌, ◌+◌, ◌∙◌, ◌∷◌, ◌≡◌}
-use Rattle.std.specs.Prelude.{not, ◌&&◌}
 use Rattle.std.proofs.lemmas.List.{append-nil, length-append}
 use Rattle.std.specs.List.{flat_map}
 use Rattle.container_model.proofs.Places.{old_length}
 use Rattle.container_model.proofs.Units.{BringsPad, spell_all-append}
 use Rattle.container_model.specs.Chunk.{Chunk, spell, spell_all}
-use Rattle.container_model.specs.Units.{Cell, Piece, Slot, begun, closed, copied, edited, gap, is_empty, kept, kept_next, lacks_pad, lay, old_bytes, padded, replaced, shut, unit_bytes, units}
+use Rattle.container_model.specs.Units.{Piece, copied, lay, old_bytes, padded, replaced, unit_bytes}
+use Rattle.carrier_model.proofs.Fitted.{LastOnly}
 use Rattle.mov_model.specs.New.{ends_open, fill, grown, hanging, padding}
-
--- only the last piece ends the list
-abbrev pub LastOnly : List Piece → Type 0
-LastOnly [] = Unit {0}
-LastOnly (copied c ∷ ps) = LastOnly ps
-LastOnly (replaced lead slot now last ∷ ps) = (last ≡ true → ps ≡ []) × LastOnly ps
-
-last_closed : (s : Slot) → LastOnly (closed true s)
-last_closed shut = tt
-last_closed (begun lead slot now) = (λ e. refl, tt)
-
-last_more : (s : Slot) (ps : List Piece) → LastOnly ps → LastOnly (closed false s ++ ps)
-last_more shut ps h = h
-last_more (begun lead slot now) ps h = (λ e. absurd cc, h)
-
-last_kept : (r : Bool) (c : Chunk) (more : Slot → List Piece) → ((s : Slot) → LastOnly (more s)) → LastOnly (kept_next r c more)
-last_kept true c more h = h (begun (c ∷ []) [] [])
-last_kept false c more h = h shut
-
-pub last_units : (s : Slot) (xs : List Cell) → LastOnly (units s xs)
-unfolding units
-last_units s [] = last_closed s
-last_units s (kept c ∷ xs) = last_more s _ (last_kept (lacks_pad c && not (is_empty xs)) c (λ t. units t xs) (λ t. last_units t xs))
-last_units shut (gap c ∷ xs) = last_kept (lacks_pad c && not (is_empty xs)) c (λ t. units t xs) (λ t. last_units t xs)
-last_units (begun lead slot now) (gap c ∷ xs) = last_units (begun lead (slot ++ spell c) now) xs
-last_units shut (edited old new ∷ xs) = last_units (begun [] (spell_all old) new) xs
-last_units (begun lead slot now) (edited old new ∷ xs) = last_units (begun lead (slot ++ spell_all old) (now ++ new)) xs
 
 pub fill_between : (o : Bool) (slot : List ℕ) (s : ℕ) → fill o false slot s ≡ padding slot s
 fill_between true slot s = refl

@@ -17,7 +17,8 @@ use Rattle.mov_model.proofs.Parts.{placed_nothing}
 use Rattle.mov_model.specs.Atoms.{is}
 use Rattle.mov_model.proofs.Fits.{EditedBy, Fits, UserItems}
 use Rattle.mov_model.specs.Kept.{Node, kept, nodes}
-use Rattle.mov_model.specs.Large.{Size, all_sizes, first_passing, passes, row_sizes, sized, table_sizes, size_passed, user_sizes}
+use Rattle.mov_model.specs.Large.{all_sizes, row_sizes, table_sizes, size_passed, user_sizes}
+use Rattle.carrier_model.specs.Large.{Size, limited, is_above, first_above}
 use Rattle.mov_model.specs.Carried.{fresh, has_carrier}
 use Rattle.mov_model.specs.Movie.{Movie, movie_of}
 use Rattle.mov_model.specs.New.{edit_cuts, edited_file}
@@ -29,11 +30,11 @@ use Rattle.mov_model.specs.User.{udta, user_items}
 abbrev pub Within : List Size → Type 0
 Within ss = AllByRecursion (λ (s : Size). s.size ≤ s.limit) ss
 
-within : (ss : List Size) → first_passing ss ≡ None → Within ss
+within : (ss : List Size) → first_above ss ≡ None → Within ss
 within [] e = tt
-within (s ∷ ss) e = go (passes s) refl e (within ss)
+within (s ∷ ss) e = go (is_above s) refl e (within ss)
   where
-    go : (t : Bool) → passes s ≡ t → cond t (Some s) (first_passing ss) ≡ None → (first_passing ss ≡ None → Within ss) → (s.size ≤ s.limit) × Within ss
+    go : (t : Bool) → is_above s ≡ t → cond t (Some s) (first_above ss) ≡ None → (first_above ss ≡ None → Within ss) → (s.size ≤ s.limit) × Within ss
     go true p e again = absurd cc
     go false p e again = (ltb-false _ _ p, again e)
 
@@ -58,14 +59,14 @@ row_fits f c h = (four_fits, eight_fits)
   where
     four_fits : is c (codes "stco") ≡ true → AllByRecursion (λ p. f p < 2 ^ 32) (rows be32 c)
     four_fits e =
-        let one : row_sizes f c ≡ map (λ p. sized (f p) 4294967295) (rows be32 c) = rw e refl in
-        below f 4294967295 (2 ^ 32) (λ n le. omega arith) (rows be32 c) (within_map (λ p. sized (f p) 4294967295) (rows be32 c) (rw one at h))
+        let one : row_sizes f c ≡ map (λ p. limited 4294967295 (f p)) (rows be32 c) = rw e refl in
+        below f 4294967295 (2 ^ 32) (λ n le. omega arith) (rows be32 c) (within_map (λ p. limited 4294967295 (f p)) (rows be32 c) (rw one at h))
 
     eight_fits : is c (codes "co64") ≡ true → AllByRecursion (λ p. f p < 2 ^ 64) (rows be64 c)
     eight_fits e =
         let no : is c (codes "stco") ≡ false = rw (same_true c.id (codes "co64") e) refl in
-        let one : row_sizes f c ≡ map (λ p. sized (f p) 18446744073709551615) (rows be64 c) = rw (no, e) refl in
-        below f 18446744073709551615 (2 ^ 64) (λ n le. omega arith) (rows be64 c) (within_map (λ p. sized (f p) 18446744073709551615) (rows be64 c) (rw one at h))
+        let one : row_sizes f c ≡ map (λ p. limited 18446744073709551615 (f p)) (rows be64 c) = rw (no, e) refl in
+        below f 18446744073709551615 (2 ^ 64) (λ n le. omega arith) (rows be64 c) (within_map (λ p. limited 18446744073709551615 (f p)) (rows be64 c) (rw one at h))
 
 rows_fit : (f : ℕ → ℕ) (cs : List Chunk) → AllByRecursion (λ c. Within (row_sizes f c)) cs → AllByRecursion (FitsRows f) cs
 rows_fit f [] h = tt
@@ -75,17 +76,17 @@ tracks_fit : (f : ℕ → ℕ) (ts : List Chunk) → AllByRecursion (λ (t : Chu
 tracks_fit f [] h = tt
 tracks_fit f (t ∷ ts) h = (rows_fit f (tables t) (within_flat (row_sizes f) (tables t) h.0), tracks_fit f ts h.1)
 
-pub fits_of : (m : Movie) (e : List (Item Value)) → first_passing (all_sizes m e) ≡ None → Fits m e
+pub fits_of : (m : Movie) (e : List (Item Value)) → first_above (all_sizes m e) ≡ None → Fits m e
 fits_of m e none =
     let all = within (all_sizes m e) none in
     let a = within_both (user_sizes m e) _ all in
-    let u = within_both (map (λ (c : Chunk). sized (length (edit_carrier udta user_items e c).body) (2 ^ 24)) (first_user (parts m))) _ a.0 in
+    let u = within_both (map (λ (c : Chunk). limited (2 ^ 24) (length (edit_carrier udta user_items e c).body)) (first_user (parts m))) _ a.0 in
     let t = within_both (table_sizes m e) _ a.1.1.1 in
     record {
-      user_small = within_map (λ (c : Chunk). sized (length (edit_carrier udta user_items e c).body) (2 ^ 24)) (first_user (parts m)) u.0;
+      user_small = within_map (λ (c : Chunk). limited (2 ^ 24) (length (edit_carrier udta user_items e c).body)) (first_user (parts m)) u.0;
       fresh_small = λ n.
-          let one : cond (has_carrier udta (parts m)) [] (map (λ (c : Chunk). sized (length c.body) (2 ^ 24)) (fresh udta (put_all user_items e []))) ≡ map (λ (c : Chunk). sized (length c.body) (2 ^ 24)) (fresh udta (put_all user_items e [])) = rw n refl in
-          within_map (λ (c : Chunk). sized (length c.body) (2 ^ 24)) (fresh udta (put_all user_items e [])) (rw one at u.1);
+          let one : cond (has_carrier udta (parts m)) [] (map (λ (c : Chunk). limited (2 ^ 24) (length c.body)) (fresh udta (put_all user_items e []))) ≡ map (λ (c : Chunk). limited (2 ^ 24) (length c.body)) (fresh udta (put_all user_items e [])) = rw n refl in
+          within_map (λ (c : Chunk). limited (2 ^ 24) (length c.body)) (fresh udta (put_all user_items e [])) (rw one at u.1);
       movie_small = a.1.1.0;
       rows = tracks_fit (shift (edit_cuts m e)) (tracks m) (within_flat (λ (t : Chunk). flat_map (row_sizes (shift (edit_cuts m e))) (tables t)) (tracks m) t.0);
       few_parts = a.1.0;

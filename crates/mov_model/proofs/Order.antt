@@ -1,20 +1,20 @@
 -- The patches of an edit that has room stand in order, and there are two at most.
-use Rattle.std.proofs.Common.{◌≡◌, ℕ, suc, ◌+◌, ◌<◌, ◌≤◌, Bool, true, false, cond, eqb, List, [], ◌∷◌, ◌++◌, length, map, take, refl, sym, ap, subst, ◌∙◌, arith, inl, inr}
-use Rattle.std.specs.Prelude.{◌⊎◌, ◌&&◌, not, filter, codes}
+use Rattle.std.proofs.Common.{◌≡◌, ℕ, suc, ◌+◌, ◌<◌, ◌≤◌, Bool, true, false, cond, eqb, List, [], ◌∷◌, ◌++◌, length, map, refl, sym, ap, subst, ◌∙◌, arith, inl, inr}
+use Rattle.std.specs.Prelude.{◌&&◌, not, codes}
+use Rattle.std.specs.Int.{w32, w64, to_be_bytes}
 use Rattle.std.specs.List.{flat_map, AllByRecursion}
 use Rattle.std.proofs.lemmas.Bool.{and_parts, le-ltb, leb-true}
-use Rattle.std.proofs.lemmas.List.{length-append, length-take}
+use Rattle.std.proofs.lemmas.List.{length-append}
 use Rattle.me_bytes.specs.Bytes.{IsBytes}
 use Rattle.part_tree.specs.declared.field.EditItem.{EditItem}
 use Rattle.part_tree.specs.declared.field.Value.{Value}
 use Rattle.part_tree.specs.declared.plan.Patch.{Patch}
+use Rattle.part_tree.specs.Patches.{InOrder, Touches}
 use Rattle.container_model.specs.Chunk.{Form, riff, wide, short, long, to_end, header_bytes, Chunk, spell, spell_all}
-use Rattle.container_model.specs.Items.{Item, is_nil, put_all, edit_carrier}
+use Rattle.container_model.specs.Items.{Item, put_all, edit_carrier}
 use Rattle.container_model.specs.Sizes.{inside}
-use Rattle.container_model.specs.Units.{Cell, kept, gap, edited, live, lacks_pad, is_empty, kept_next, Piece, copied, replaced, Slot, shut, begun, closed, padded, units, old_bytes, lead_pad, unit_bytes, Fill, lay}
-use Rattle.container_model.proofs.Places.{old_length}
+use Rattle.container_model.specs.Units.{Cell, kept, gap, edited, live, lacks_pad, is_empty, kept_next, Piece, copied, replaced, Slot, shut, begun, closed, units, Fill, lay}
 use Rattle.container_model.proofs.Read.{Atom, AtomForm}
-use Rattle.container_model.proofs.Units.{BringsPad, spell_all-append}
 use Rattle.mov_model.specs.Atoms.{cell_by, cell_of, is_padding}
 use Rattle.mov_model.specs.User.{user_items, udta}
 use Rattle.mov_model.specs.Carried.{first_cell, add_last, only_gaps, add_new, fresh, carry_by, carried, has_carrier}
@@ -22,11 +22,14 @@ use Rattle.mov_model.specs.Movie.{Movie, movie_of}
 use Rattle.mov_model.specs.New.{fill, gaps_of, grown, pieces_of, is_open, whole_pieces, ends_file, kids_at, new_movie}
 use Rattle.mov_model.specs.Support.{Supported}
 use Rattle.mov_model.specs.Edited.{changes, new_file}
-use Rattle.mov_model.specs.Room.{unit_fits, units_fit, patch, unit_patches, size_patch, moov_patch, patches, Room, InOrder, Touches, PatchesFit}
+use Rattle.carrier_model.specs.Order.{SoundPatches}
+use Rattle.carrier_model.specs.Room.{patch, unit_patch, unit_patches}
+use Rattle.carrier_model.proofs.Patches.{one_patch, order_low, order_patch, touches_behind}
+use Rattle.carrier_model.proofs.Fitted.{fitting_length, units_cover, units_in_order}
+use Rattle.mov_model.specs.Room.{units_fit, size_patch, moov_patch, patches, Room}
 use Rattle.mov_model.proofs.Again.{kids, kids_read}
 use Rattle.mov_model.proofs.Clauses.{header_len, whole_brings}
-use Rattle.mov_model.proofs.InPlace.{behind, fill_none, fit, moov_form, new_is, none_behind, old_len, only_last, piece_fits}
-use Rattle.mov_model.proofs.Laid.{LastOnly}
+use Rattle.mov_model.proofs.InPlace.{behind, fit, moov_form, new_is, none_behind, old_len, only_last}
 
 -- ---- one unit at most
 
@@ -126,176 +129,39 @@ grown_in more (copied c ∷ ps) = grown_in more ps
 grown_in more (replaced lead slot now true ∷ ps) = refl
 grown_in more (replaced lead slot now false ∷ ps) = ap suc (grown_in more ps)
 
-patches_many : (f : Fill) (at : ℕ) (ps : List Piece) → length (unit_patches f at ps) ≡ units_in ps
-patches_many f at [] = refl
+patches_many : (f : Fill) (at : ℕ) (ps : List Piece) → length (unit_patches f at ps) ≤ units_in ps
+patches_many f at [] = omega arith
 patches_many f at (copied c ∷ ps) = patches_many f (at + length (spell c)) ps
-patches_many f at (replaced lead slot now last ∷ ps) = ap suc (patches_many f (at + length (spell_all lead ++ slot)) ps)
+patches_many f at (replaced lead slot now last ∷ ps) =
+    let here = at + length (spell_all lead) in
+    let w = unit_patch f lead slot now last in
+    let next = unit_patches f (at + length (spell_all lead ++ slot)) ps in
+    omega (arith, patches_many f (at + length (spell_all lead ++ slot)) ps, one_patch here w, length-append (patch here w) next)
 
--- ---- patches in order, also those of no bytes
-
-abbrev Follow : ℕ → ℕ → List Patch → Type 0
-Follow new end [] = Unit {0}
-Follow new end (p ∷ ps) = (end ≤ p.at) × (p.at + length p.bytes ≤ new) × Follow new (p.at + length p.bytes) ps
-
-follow_low : (new low end : ℕ) (ps : List Patch) → low ≤ end → Follow new end ps → Follow new low ps
-follow_low new low end [] le h = tt
-follow_low new low end (p ∷ ps) le h = (omega (arith, h.0), h.1, h.2)
-
-abbrev some_of : List Patch → List Patch
-some_of ps = filter (λ (p : Patch). not (is_nil p.bytes)) ps
-
-some_bytes : (b : List ℕ) → is_nil b ≡ false → 0 < length b
-some_bytes [] e = absurd cc
-some_bytes (x ∷ b) e = omega arith
-
-some_order : (new end : ℕ) (ps : List Patch) → Follow new end ps → InOrder new end (some_of ps)
-some_order new end [] h = tt
-some_order new end (p ∷ ps) h = go (is_nil p.bytes) refl (λ low k. some_order new low ps k)
-  where
-    go : (t : Bool) → is_nil p.bytes ≡ t → ((low : ℕ) → Follow new low ps → InOrder new low (some_of ps)) → InOrder new end (cond (not t) (p ∷ some_of ps) (some_of ps))
-    go true e again = again end (follow_low new end (p.at + length p.bytes) ps (omega (arith, h.0)) h.2)
-    go false e again = (some_bytes p.bytes e, h.0, h.1, again (p.at + length p.bytes) h.2)
-
-some_touch : (q : ℕ) (ps : List Patch) → Touches q ps → Touches q (some_of ps)
-some_touch q [] h = absurd h
-some_touch q (p ∷ ps) h = go (is_nil p.bytes) refl h (λ k. some_touch q ps k)
-  where
-    none : (b : List ℕ) → is_nil b ≡ true → length b ≡ 0
-    none [] e = refl
-    none (x ∷ b) e = absurd cc
-
-    go : (t : Bool) → is_nil p.bytes ≡ t → ((p.at ≤ q) × (q < p.at + length p.bytes)) ⊎ Touches q ps → (Touches q ps → Touches q (some_of ps)) → Touches q (cond (not t) (p ∷ some_of ps) (some_of ps))
-    go true e (inl h) again = absurd (omega (arith, h.0, h.1, none p.bytes e))
-    go true e (inr h) again = again h
-    go false e (inl h) again = inl h
-    go false e (inr h) again = inr (again h)
-
-some_few : (ps : List Patch) → length (some_of ps) ≤ length ps
-some_few [] = omega arith
-some_few (p ∷ ps) = go (is_nil p.bytes) (some_few ps)
-  where
-    go : (t : Bool) → length (some_of ps) ≤ length ps → length (cond (not t) (p ∷ some_of ps) (some_of ps)) ≤ suc (length ps)
-    go true h = omega arith
-    go false h = omega arith
-
-touch_behind : (q : ℕ) (a b : List Patch) → Touches q b → Touches q (a ++ b)
-touch_behind q [] b h = h
-touch_behind q (p ∷ a) b h = inr (touch_behind q a b h)
-
--- ---- the units' patches
-
-unit_length : (ends : Bool) (lead : List Chunk) (slot : List ℕ) (now : List Chunk) (last : Bool) (ps : List Piece) → spell_all (map padded lead) ≡ spell_all lead ++ lead_pad lead
-    → length (spell_all (lay (fill ends) (replaced lead slot now last ∷ ps))) ≡ (length (spell_all lead) + length (unit_bytes lead now ++ spell_all (fill ends last slot (length (unit_bytes lead now))))) + length (spell_all (lay (fill ends) ps))
-unit_length ends lead slot now last ps b =
-    let f = fill ends last slot (length (unit_bytes lead now)) in
-    omega (
-      arith,
-      ap length (spell_all-append (map padded lead ++ (now ++ f)) (lay (fill ends) ps)),
-      length-append (spell_all (map padded lead ++ (now ++ f))) (spell_all (lay (fill ends) ps)),
-      ap length (spell_all-append (map padded lead) (now ++ f)),
-      length-append (spell_all (map padded lead)) (spell_all (now ++ f)),
-      ap length (spell_all-append now f),
-      length-append (spell_all now) (spell_all f),
-      ap length b,
-      length-append (spell_all lead) (lead_pad lead),
-      length-append (unit_bytes lead now) (spell_all f),
-      length-append (lead_pad lead) (spell_all now),
-    )
-
--- where the new bytes end
-abbrev new_end : Bool → ℕ → List Piece → ℕ → ℕ
-new_end ends at ps rest = at + (length (spell_all (lay (fill ends) ps)) + rest)
-
-module _ (ends : Bool) (rest : ℕ) (end_rest : ends ≡ true → rest ≡ 0) where
-  -- they follow each other, and each place behind the old end is in one
-  abbrev Stand : ℕ → List Piece → Type 0
-  Stand at ps = Follow (new_end ends at ps rest) at (unit_patches (fill ends) at ps) × ((q : ℕ) → at + (old_length ps + rest) ≤ q → q < new_end ends at ps rest → Touches q (unit_patches (fill ends) at ps))
-
-  units_stand : (at : ℕ) (ps : List Piece) → BringsPad ps → LastOnly ps → units_fit ends ps ≡ true → Stand at ps
-  units_stand at [] b l h = (tt, λ q low high. omega (arith, low, high))
-  units_stand at (copied c ∷ ps) b l h =
-      let next = at + length (spell c) in
-      let again = units_stand next ps b l h in
-      let new : new_end ends at (copied c ∷ ps) rest ≡ new_end ends next ps rest = omega (arith, length-append (spell c) (spell_all (lay (fill ends) ps))) in
-      let us = unit_patches (fill ends) next ps in (
-        subst (λ (n : ℕ). Follow n at us) (sym new) (follow_low (new_end ends next ps rest) at next us (omega arith) again.0),
-        λ q low high. again.1 q (omega (arith, low, length-append (spell c) (flat_map old_bytes ps))) (omega (arith, high, new)),
-      )
-  units_stand at (replaced lead slot now last ∷ ps) b l h = go (ends && last) refl (units_stand next ps b.1 l.1 parts.1)
-    where
-      u : List ℕ
-      u = unit_bytes lead now
-
-      p : List ℕ
-      p = spell_all (fill ends last slot (length u))
-
-      x : Patch
-      x = patch (at + length (spell_all lead)) (u ++ take 8 p)
-
-      next : ℕ
-      next = at + length (spell_all lead ++ slot)
-
-      us : List Patch
-      us = unit_patches (fill ends) next ps
-
-      parts : (unit_fits (ends && last) (length slot) (length u) ≡ true) × (units_fit ends ps ≡ true)
-      parts = and_parts (unit_fits (ends && last) (length slot) (length u)) (units_fit ends ps) h
-
-      len : length (spell_all (lay (fill ends) (replaced lead slot now last ∷ ps))) ≡ (length (spell_all lead) + length (u ++ p)) + length (spell_all (lay (fill ends) ps))
-      len = unit_length ends lead slot now last ps b.0
-
-      old : old_length (replaced lead slot now last ∷ ps) ≡ (length (spell_all lead) + length slot) + old_length ps
-      old = omega (arith, length-append (spell_all lead ++ slot) (flat_map old_bytes ps), length-append (spell_all lead) slot)
-
-      room : length (u ++ take 8 p) ≤ length (u ++ p)
-      room = omega (arith, length-append u (take 8 p), length-append u p, length-take 8 p)
-
-      go : (t : Bool) → (ends && last) ≡ t → Stand next ps → Stand at (replaced lead slot now last ∷ ps)
-      go true e again =
-          let q = and_parts ends last e in
-          let nil : ps ≡ [] = l.0 q.1 in
-          let none : length p ≡ 0 = ap (λ (cs : List Chunk). length (spell_all cs)) (fill_none ends last slot (length u) e) in
-          let gone : us ≡ [] = ap (unit_patches (fill ends) next) nil in
-          let laid : length (spell_all (lay (fill ends) ps)) ≡ 0 = ap (λ (qs : List Piece). length (spell_all (lay (fill ends) qs))) nil in
-          let olds : old_length ps ≡ 0 = ap old_length nil in
-          let word : length (u ++ take 8 p) ≡ length (u ++ p) = omega (arith, length-append u (take 8 p), length-append u p, length-take 8 p, none) in
-          let end : rest ≡ 0 = end_rest q.0 in (
-            (omega arith, omega (arith, len, laid, word), subst (λ (z : List Patch). Follow (new_end ends at (replaced lead slot now last ∷ ps) rest) (x.at + length x.bytes) z) (sym gone) tt),
-            λ k low high. inl (omega (arith, low, old), omega (arith, high, len, laid, word, end)),
-          )
-      go false e again =
-          let f = piece_fits ends last slot u e parts.0 in
-          let new : new_end ends at (replaced lead slot now last ∷ ps) rest ≡ new_end ends next ps rest = omega (arith, len, f.fills, length-append (spell_all lead) slot) in (
-            (
-              omega arith,
-              omega (arith, len, room),
-              subst (λ (n : ℕ). Follow n (x.at + length x.bytes) us) (sym new) (follow_low (new_end ends next ps rest) (x.at + length x.bytes) next us (omega (arith, f.room, length-append (spell_all lead) slot)) again.0),
-            ),
-            λ k low high. inr (again.1 k (omega (arith, low, old, length-append (spell_all lead) slot)) (omega (arith, high, new))),
-          )
+-- ---- the patch of the size
 
 -- the patch of the size stands in the header of moov
-size_stands : (form : Form) (at n new head : ℕ) (us : List Patch) → AtomForm form → head ≡ at + length (header_bytes form (codes "moov") n) → head ≤ new → Follow new head us → Follow new 0 (size_patch form at n ++ us)
-size_stands form at n new head us (inl e) h le f = subst (λ (g : Form). Follow new 0 (size_patch g at n ++ us)) (sym e) (short_one (h ∙ ap (λ (g : Form). at + length (header_bytes g (codes "moov") n)) e))
+size_stands : (form : Form) (at n new head : ℕ) (us : List Patch) → AtomForm form → head ≡ at + length (header_bytes form (codes "moov") n) → head ≤ new → InOrder new head us → InOrder new 0 (size_patch form at n ++ us)
+size_stands form at n new head us (inl e) h le f = subst (λ (g : Form). InOrder new 0 (size_patch g at n ++ us)) (sym e) (short_one (h ∙ ap (λ (g : Form). at + length (header_bytes g (codes "moov") n)) e))
   where
-    short_one : head ≡ at + 8 → Follow new 0 (size_patch short at n ++ us)
-    short_one z = (omega arith, omega (arith, z), follow_low new (at + 4) head us (omega (arith, z)) f)
-size_stands form at n new head us (inr (inl e)) h le f = subst (λ (g : Form). Follow new 0 (size_patch g at n ++ us)) (sym e) (long_one (h ∙ ap (λ (g : Form). at + length (header_bytes g (codes "moov") n)) e))
+    short_one : head ≡ at + 8 → InOrder new 0 (size_patch short at n ++ us)
+    short_one z = let fits : at + 4 ≤ new = omega (arith, z, le) in order_patch new 0 at (to_be_bytes w32 (n + 8)) us (omega arith) fits (order_low new (at + 4) head us (omega (arith, z)) f)
+size_stands form at n new head us (inr (inl e)) h le f = subst (λ (g : Form). InOrder new 0 (size_patch g at n ++ us)) (sym e) (long_one (h ∙ ap (λ (g : Form). at + length (header_bytes g (codes "moov") n)) e))
   where
-    long_one : head ≡ at + 16 → Follow new 0 (size_patch long at n ++ us)
-    long_one z = (omega arith, omega (arith, z), follow_low new ((at + 8) + 8) head us (omega (arith, z)) f)
-size_stands form at n new head us (inr (inr e)) h le f = subst (λ (g : Form). Follow new 0 (size_patch g at n ++ us)) (sym e) (follow_low new 0 head us (omega arith) f)
+    long_one : head ≡ at + 16 → InOrder new 0 (size_patch long at n ++ us)
+    long_one z = let fits : (at + 8) + 8 ≤ new = omega (arith, z, le) in order_patch new 0 (at + 8) (to_be_bytes w64 (n + 16)) us (omega arith) fits (order_low new ((at + 8) + 8) head us (omega (arith, z)) f)
+size_stands form at n new head us (inr (inr e)) h le f = subst (λ (g : Form). InOrder new 0 (size_patch g at n ++ us)) (sym e) (order_low new 0 head us (omega arith) f)
 
 one_size : (form : Form) (at n : ℕ) → length (size_patch form at n) ≤ 1
 one_size riff at n = omega arith
 one_size wide at n = omega arith
-one_size short at n = omega arith
-one_size long at n = omega arith
+one_size short at n = one_patch at (to_be_bytes w32 (n + 8))
+one_size long at n = one_patch (at + 8) (to_be_bytes w64 (n + 16))
 one_size to_end at n = omega arith
 
 -- ---- of a supported file
 
-module _ (o : List ℕ) (e : List EditItem) (bytes : IsBytes o) (sup : Supported o) (room : Room o e) where
+module _ (o : List ℕ) (e : List EditItem) (bytes : IsBytes o) (sup : Supported o) where
   abbrev m : Movie
   m = movie_of o
 
@@ -311,31 +177,8 @@ module _ (o : List ℕ) (e : List EditItem) (bytes : IsBytes o) (sup : Supported
   abbrev size : ℕ
   size = length (new_movie m c).movie.body
 
-  abbrev rest : ℕ
-  rest = length (behind o e bytes sup room)
-
   abbrev us : List Patch
   us = unit_patches (fill ends) (kids_at m c) ps
-
-  stand : Stand ends rest (λ x. ap length (none_behind o e bytes sup room x)) (kids_at m c) ps
-  stand = units_stand ends rest (λ x. ap length (none_behind o e bytes sup room x)) (kids_at m c) ps (whole_brings m c) (only_last o e bytes sup room) (fit o e bytes sup room)
-
-  new_len : length (new_file o e) ≡ new_end ends (kids_at m c) ps rest
-  new_len =
-      let b = spell_all m.before in
-      let head = header_bytes m.movie.form m.movie.id size in
-      let y = spell_all (lay (fill ends) ps) in
-      omega (arith, ap length (new_is o e bytes sup room), length-append (b ++ head) (y ++ behind o e bytes sup room), length-append b head, length-append y (behind o e bytes sup room), header_len m.movie.form m.movie.id (length m.movie.body) size)
-
-  head_at : kids_at m c ≡ length (spell_all m.before) + length (header_bytes m.movie.form (codes "moov") size)
-  head_at = omega (arith, header_len m.movie.form m.movie.id (length m.movie.body) size, ap (λ (i : List ℕ). length (header_bytes m.movie.form i size)) sup.movie.is_moov)
-
-  follow : Follow (length (new_file o e)) 0 (moov_patch m size ++ us)
-  follow = subst (λ (n : ℕ). Follow n 0 (moov_patch m size ++ us)) (sym new_len) (go (eqb size (length m.movie.body)))
-    where
-      go : (t : Bool) → Follow (new_end ends (kids_at m c) ps rest) 0 (cond t [] (size_patch m.movie.form (length (spell_all m.before)) size) ++ us)
-      go true = follow_low (new_end ends (kids_at m c) ps rest) 0 (kids_at m c) us (omega arith) stand.0
-      go false = size_stands m.movie.form (length (spell_all m.before)) size (new_end ends (kids_at m c) ps rest) (kids_at m c) us (moov_form o e bytes sup room) head_at (omega arith) stand.0
 
   moov_one : length (moov_patch m size) ≤ 1
   moov_one = go (eqb size (length m.movie.body))
@@ -356,10 +199,45 @@ module _ (o : List ℕ) (e : List EditItem) (bytes : IsBytes o) (sup : Supported
       go true h = omega (arith, h, grown_in (spell_all (gaps_of m.behind)) (pieces_of m c))
       go false h = h
 
-  pub patches_fit : PatchesFit (length o) (length (new_file o e)) (patches o e)
-  patches_fit = record {
-    few = omega (arith, some_few (moov_patch m size ++ us), length-append (moov_patch m size) us, moov_one, patches_many (fill ends) (kids_at m c) ps, one_unit);
-    in_order = some_order (length (new_file o e)) 0 (moov_patch m size ++ us) follow;
-    small = leb-true _ _ (and_parts (units_fit ends ps) _ room).1;
-    whole = λ q low high. some_touch q (moov_patch m size ++ us) (touch_behind q (moov_patch m size) us (stand.1 q (omega (arith, low, old_len o e bytes sup room)) (omega (arith, high, new_len))));
-  }
+  -- The size of moov and a unit are two at most.
+  pub patches_two : length (patches o e) ≤ 2
+  patches_two = omega (arith, length-append (moov_patch m size) us, moov_one, patches_many (fill ends) (kids_at m c) ps, one_unit)
+
+  module _ (room : Room o e) where
+    abbrev rest : ℕ
+    rest = length (behind o e bytes sup room)
+
+    new_len : length (new_file o e) ≡ kids_at m c + (length (spell_all (lay (fill ends) ps)) + rest)
+    new_len =
+        let b = spell_all m.before in
+        let head = header_bytes m.movie.form m.movie.id size in
+        let y = spell_all (lay (fill ends) ps) in
+        omega (arith, ap length (new_is o e bytes sup room), length-append (b ++ head) (y ++ behind o e bytes sup room), length-append b head, length-append y (behind o e bytes sup room), header_len m.movie.form m.movie.id (length m.movie.body) size)
+
+    head_at : kids_at m c ≡ length (spell_all m.before) + length (header_bytes m.movie.form (codes "moov") size)
+    head_at = omega (arith, header_len m.movie.form m.movie.id (length m.movie.body) size, ap (λ (i : List ℕ). length (header_bytes m.movie.form i size)) sup.movie.is_moov)
+
+    ordered : InOrder (length (new_file o e)) 0 (patches o e)
+    ordered = go (eqb size (length m.movie.body))
+      where
+        units : InOrder (length (new_file o e)) (kids_at m c) us
+        units = units_in_order (fill ends) ends (length (new_file o e)) (kids_at m c) (kids_at m c) ps (omega arith) (omega (arith, new_len)) (only_last o e bytes sup room) (whole_brings m c) (fit o e bytes sup room)
+
+        go : (t : Bool) → InOrder (length (new_file o e)) 0 (cond t [] (size_patch m.movie.form (length (spell_all m.before)) size) ++ us)
+        go true = order_low (length (new_file o e)) 0 (kids_at m c) us (omega arith) units
+        go false = size_stands m.movie.form (length (spell_all m.before)) size (length (new_file o e)) (kids_at m c) us (moov_form o e bytes sup room) head_at (omega (arith, new_len)) units
+
+    covered : (q : ℕ) → length o ≤ q → q < length (new_file o e) → Touches q (patches o e)
+    covered q low high = go ends refl
+      where
+        go : (t : Bool) → ends ≡ t → Touches q (patches o e)
+        go true t =
+            let none : rest ≡ 0 = ap length (none_behind o e bytes sup room t) in
+            touches_behind q (moov_patch m size) us
+            (units_cover (fill ends) ends (kids_at m c) ps q (only_last o e bytes sup room) (whole_brings m c) (fit o e bytes sup room) (omega (arith, low, old_len o e bytes sup room, none)) (omega (arith, high, new_len, none)))
+        go false t =
+            let len = fitting_length (fill ends) ends t ps (whole_brings m c) (fit o e bytes sup room) in
+            absurd (omega (arith, len, low, high, old_len o e bytes sup room, new_len))
+
+    pub patches_sound : SoundPatches (length o) (length (new_file o e)) (patches o e)
+    patches_sound = record { in_order = ordered; few_bytes = leb-true _ _ (and_parts (units_fit ends ps) _ room).1; cover = covered }

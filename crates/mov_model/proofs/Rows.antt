@@ -1,5 +1,5 @@
 -- Worked rows: the new file, where it is written in place, and what is then patched.
-use Rattle.std.proofs.Common.{◌≡◌, ℕ, List, [], ◌∷◌, Some, None, true, false, refl}
+use Rattle.std.proofs.Common.{◌≡◌, ℕ, List, [], ◌∷◌, ◌++◌, Some, None, true, false, refl}
 use Rattle.std.specs.Prelude.{codes}
 use Rattle.part_tree.specs.Letters.{four}
 use Rattle.part_tree.specs.declared.field.Change.TheVariants.{Set}
@@ -12,7 +12,8 @@ use Rattle.container_model.specs.Walk.{walk}
 use Rattle.mov_model.specs.New.{edited_file}
 use Rattle.mov_model.specs.Edited.{fields, new_file}
 use Rattle.mov_model.specs.Large.{too_large}
-use Rattle.mov_model.specs.Room.{has_room, patch, patches}
+use Rattle.carrier_model.specs.Room.{patch}
+use Rattle.mov_model.specs.Room.{has_room, patches}
 use Rattle.mov_model.specs.Why.{why}
 use Rattle.mov_model.specs.Pieces.{pieces}
 use Rattle.mov_model.specs.Cuts.{offset_places}
@@ -81,7 +82,7 @@ in_place_fits : has_room reel (set big) ≡ true
 unfolding edited_file units chunks read mend
 in_place_fits = refl
 
-its_patches : patches reel (set big) ≡ patch 20 (0 ∷ 0 ∷ 0 ∷ 160 ∷ []) ∷ patch 132 (0 ∷ 0 ∷ 0 ∷ 48 ∷ 117 ∷ 100 ∷ 116 ∷ 97 ∷ 0 ∷ 0 ∷ 0 ∷ 40 ∷ 169 ∷ 110 ∷ 97 ∷ 109 ∷ 0 ∷ 28 ∷ 21 ∷ 199 ∷ 97 ∷ 98 ∷ 99 ∷ 100 ∷ 101 ∷ 102 ∷ 103 ∷ 104 ∷ 105 ∷ 106 ∷ 107 ∷ 108 ∷ 109 ∷ 110 ∷ 111 ∷ 112 ∷ 113 ∷ 114 ∷ 115 ∷ 116 ∷ 117 ∷ 118 ∷ 119 ∷ 120 ∷ 121 ∷ 122 ∷ 48 ∷ 49 ∷ []) ∷ []
+its_patches : patches reel (set big) ≡ patch 20 (0 ∷ 0 ∷ 0 ∷ 160 ∷ []) ++ patch 132 (0 ∷ 0 ∷ 0 ∷ 48 ∷ 117 ∷ 100 ∷ 116 ∷ 97 ∷ 0 ∷ 0 ∷ 0 ∷ 40 ∷ 169 ∷ 110 ∷ 97 ∷ 109 ∷ 0 ∷ 28 ∷ 21 ∷ 199 ∷ 97 ∷ 98 ∷ 99 ∷ 100 ∷ 101 ∷ 102 ∷ 103 ∷ 104 ∷ 105 ∷ 106 ∷ 107 ∷ 108 ∷ 109 ∷ 110 ∷ 111 ∷ 112 ∷ 113 ∷ 114 ∷ 115 ∷ 116 ∷ 117 ∷ 118 ∷ 119 ∷ 120 ∷ 121 ∷ 122 ∷ 48 ∷ 49 ∷ [])
 unfolding edited_file units chunks read mend
 its_patches = refl
 
@@ -109,7 +110,7 @@ end_fits : has_room moov_last (set longer) ≡ true
 unfolding edited_file units chunks read mend
 end_fits = refl
 
-patches_at_the_end : patches moov_last (set longer) ≡ patch 52 (0 ∷ 0 ∷ 0 ∷ 143 ∷ []) ∷ patch 164 (0 ∷ 0 ∷ 0 ∷ 31 ∷ 117 ∷ 100 ∷ 116 ∷ 97 ∷ 0 ∷ 0 ∷ 0 ∷ 23 ∷ 169 ∷ 110 ∷ 97 ∷ 109 ∷ 0 ∷ 11 ∷ 21 ∷ 199 ∷ 76 ∷ 111 ∷ 110 ∷ 103 ∷ 101 ∷ 114 ∷ 32 ∷ 110 ∷ 97 ∷ 109 ∷ 101 ∷ []) ∷ []
+patches_at_the_end : patches moov_last (set longer) ≡ patch 52 (0 ∷ 0 ∷ 0 ∷ 143 ∷ []) ++ patch 164 (0 ∷ 0 ∷ 0 ∷ 31 ∷ 117 ∷ 100 ∷ 116 ∷ 97 ∷ 0 ∷ 0 ∷ 0 ∷ 23 ∷ 169 ∷ 110 ∷ 97 ∷ 109 ∷ 0 ∷ 11 ∷ 21 ∷ 199 ∷ 76 ∷ 111 ∷ 110 ∷ 103 ∷ 101 ∷ 114 ∷ 32 ∷ 110 ∷ 97 ∷ 109 ∷ 101 ∷ [])
 unfolding edited_file units chunks read mend
 patches_at_the_end = refl
 

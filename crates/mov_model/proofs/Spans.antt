@@ -12,7 +12,8 @@ use Rattle.container_model.specs.Splice.{splice, splice_from}
 use Rattle.container_model.specs.Units.{lay, old_bytes, shut}
 use Rattle.mov_model.proofs.Cells.{was_carried, was_read}
 use Rattle.mov_model.proofs.Clauses.{behind_split, opened_last, whole_brings}
-use Rattle.mov_model.proofs.Laid.{grown_bytes, grown_laid, last_units}
+use Rattle.carrier_model.proofs.Fitted.{LastOnly, last_units}
+use Rattle.mov_model.proofs.Laid.{grown_bytes, grown_laid}
 use Rattle.mov_model.specs.Atoms.{atoms_in, cell_of}
 use Rattle.mov_model.specs.Carried.{carried}
 use Rattle.mov_model.specs.Movie.{Movie, spell_movie}
@@ -36,7 +37,7 @@ module _ (m : Movie) (e : List (Item Value)) (joined : spell_all (atoms_in m.mov
   abbrev pub behind_pieces : List ℕ
   behind_pieces = cond (is_open m e) [] left ++ (spell_all (rest_behind m e) ++ m.left)
 
-  pub last : Rattle.mov_model.proofs.Laid.LastOnly (pieces_of m e)
+  pub last : LastOnly (pieces_of m e)
   last = last_units shut (carried udta user_items e (map cell_of (atoms_in m.movie).chunks))
 
   pub open_left : is_open m e ≡ true → left ≡ []

@@ -1,7 +1,8 @@
 -- What is too large: the first of these sizes that passes its limit (this project's own).
-use Rattle.std.specs.Prelude.{Bool, List, None, Option, Some, [], codes, if◌then◌else◌, length, map, nat_lt, ℕ, ◌++◌, ◌^◌, ◌∷◌}
+use Rattle.std.specs.Prelude.{List, None, Option, [], codes, if◌then◌else◌, length, map, ℕ, ◌++◌, ◌^◌, ◌∷◌}
 use Rattle.std.specs.List.{flat_map}
 use Rattle.part_tree.specs.declared.field.EditItem.{EditItem}
+use Rattle.carrier_model.specs.Large.{Size, limited, first_above}
 use Rattle.mov_model.specs.Edited.{changes}
 use Rattle.part_tree.specs.declared.field.Value.{Value}
 use Rattle.container_model.specs.Chunk.{Chunk, spell}
@@ -17,35 +18,17 @@ use Rattle.mov_model.specs.Reading.{count_parts}
 use Rattle.mov_model.specs.Tables.{rows, tables}
 use Rattle.mov_model.specs.User.{udta, user_items}
 
--- a size and its limit
-pub record Size : Type 0 where
-  pub size : ℕ
-  pub limit : ℕ
-
--- this size, with this limit
-abbrev pub sized : ℕ → ℕ → Size
-sized n limit = record { size = n; limit = limit }
-
--- it passes its limit
-abbrev pub passes : Size → Bool
-passes s = nat_lt s.limit s.size
-
--- the first that passes its limit
-abbrev pub first_passing : List Size → Option Size
-first_passing [] = None
-first_passing (s ∷ ss) = if passes s then Some s else first_passing ss
-
 -- the body of the user data, edited or new
 abbrev pub user_sizes : Movie → List (Item Value) → List Size
 user_sizes m e =
-    map (λ (c : Chunk). sized (length (edit_carrier udta user_items e c).body) (2 ^ 24)) (first_user (parts m))
-    ++ (if has_carrier udta (parts m) then [] else map (λ (c : Chunk). sized (length c.body) (2 ^ 24)) (fresh udta (put_all user_items e [])))
+    map (λ (c : Chunk). limited (2 ^ 24) (length (edit_carrier udta user_items e c).body)) (first_user (parts m))
+    ++ (if has_carrier udta (parts m) then [] else map (λ (c : Chunk). limited (2 ^ 24) (length c.body)) (fresh udta (put_all user_items e [])))
 
 -- the new places in a table
 abbrev pub row_sizes : (ℕ → ℕ) → Chunk → List Size
 row_sizes f c =
-    if is c (codes "stco") then map (λ p. sized (f p) 4294967295) (rows be32 c)
-    else (if is c (codes "co64") then map (λ p. sized (f p) 18446744073709551615) (rows be64 c) else [])
+    if is c (codes "stco") then map (λ p. limited 4294967295 (f p)) (rows be32 c)
+    else (if is c (codes "co64") then map (λ p. limited 18446744073709551615 (f p)) (rows be64 c) else [])
 
 -- the new places in all tables, by place
 abbrev pub table_sizes : Movie → List (Item Value) → List Size
@@ -55,13 +38,13 @@ table_sizes m e = flat_map (λ (t : Chunk). flat_map (row_sizes (shift (edit_cut
 abbrev pub all_sizes : Movie → List (Item Value) → List Size
 all_sizes m e =
     user_sizes m e
-    ++ (sized (count_parts (new_movie m e)) 65536
-    ∷ (sized (length (spell (new_movie m e).movie)) (2 ^ 26) ∷ (table_sizes m e ++ sized (length (spell_movie (new_movie m e))) 9223372036854775807 ∷ [])))
+    ++ (limited 65536 (count_parts (new_movie m e))
+    ∷ (limited (2 ^ 26) (length (spell (new_movie m e).movie)) ∷ (table_sizes m e ++ limited 9223372036854775807 (length (spell_movie (new_movie m e))) ∷ [])))
 
 -- without an item nothing is
 abbrev pub size_passed : Movie → List (Item Value) → Option Size
 size_passed m [] = None
-size_passed m (i ∷ e) = first_passing (all_sizes m (i ∷ e))
+size_passed m (i ∷ e) = first_above (all_sizes m (i ∷ e))
 
 -- the first limit that an edit passes
 abbrev pub too_large : List ℕ → List EditItem → Option Size

@@ -18,7 +18,9 @@ ghost use Rattle.part_tree.specs.declared.field.RuleSet.TheVariants.{Base};
 ghost use Rattle.part_tree.specs.declared.names.Kind.TheVariants.{Mov};
 ghost use Rattle.field_model.specs.Broken.{broken};
 ghost use Rattle.mov_model.specs.Cuts.{TablesStay, all_cuts, unit_cuts};
-ghost use Rattle.mov_model.specs.Room.{PatchesFit, Room, patched, patches};
+ghost use Rattle.mov_model.specs.Room.{Room, patches};
+ghost use Rattle.carrier_model.specs.Order.{SoundPatches};
+ghost use Rattle.part_tree.specs.Patches.{laid};
 ghost use Rattle.std.specs.List.{AllByRecursion, flat_map};
 ghost use Rattle.mov_model.specs.User.{TextFits, text_bytes, texts};
 ghost use Rattle.mov_model.specs.Large.{too_large};
@@ -65,11 +67,12 @@ pub fn only_units_change()
 {}
 
 /// Where an edit has room, no chunk of a track moves, and the patches, laid over the old file at the new length, make the
-/// new file. They are two at most, stand in order, and hold each place behind the old end.
+/// new file. They are in order, lie in the new file, have at most 16 MiB, cover what the file gains, and are two at most.
 pub fn patches_make_new()
     ensures stay { (o : List ℕ) (e : List EditItem) → IsBytes o → Supported o → Room o e → TablesStay o e }
-    ensures fit { (o : List ℕ) (e : List EditItem) → IsBytes o → Supported o → Room o e → PatchesFit (length o) (length (new_file o e)) (patches o e) }
-    ensures made { (o : List ℕ) (e : List EditItem) → IsBytes o → Supported o → Room o e → new_file o e ≡ take (length (new_file o e)) (patched (patches o e) o) }
+    ensures made { (o : List ℕ) (e : List EditItem) → IsBytes o → Supported o → Room o e → new_file o e ≡ laid (length (new_file o e)) (patches o e) o }
+    ensures sound { (o : List ℕ) (e : List EditItem) → IsBytes o → Supported o → Room o e → SoundPatches (length o) (length (new_file o e)) (patches o e) }
+    ensures two { (o : List ℕ) (e : List EditItem) → IsBytes o → Supported o → length (patches o e) ≤ 2 }
 {}
 
 /// Where something is edited and nothing is too large, the new file has at most 2^63-1 bytes.

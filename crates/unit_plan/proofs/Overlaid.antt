@@ -4,11 +4,8 @@ use Rattle.std.specs.List.{flat_map}
 use Rattle.std.proofs.lemmas.List.{drop-drop, drop_all, take_at, take-append-drop}
 use Rattle.part_tree.specs.declared.plan.Patch.{Patch}
 use Rattle.me_bytes.specs.Bytes.{overlay}
-use Rattle.part_tree.specs.Patches.{patched, laid, all_bytes}
-use Rattle.part_tree.specs.Patches as Patches
-use Rattle.carrier_model.specs.Room as Room
-use Rattle.carrier_model.specs.Room.{patch}
-use Rattle.carrier_model.specs.Order as Order
+use Rattle.part_tree.specs.Patches.{patched, laid}
+use Rattle.carrier_model.proofs.Patches.{overlay_is, patched-append, patched_one}
 use Rattle.container_model.specs.Splice.{Cut, splice, splice_from}
 use Rattle.container_model.proofs.Units.{take_past, drop_past}
 use Rattle.unit_plan.specs.declared.cut.CutAt.{CutAt}
@@ -36,17 +33,6 @@ spliced_length b len ks e h =
     spliced_from_len b 0 ks (subst (λ (n : ℕ). SpansAscend 0 ks n) (sym e) h) ∙ ap (λ (n : ℕ). spliced_len n ks) same
 
 -- ---- patches
-
-pub lay-append : (a b : List Patch) (y : List ℕ) → patched (a ++ b) y ≡ patched b (patched a y)
-lay-append [] b y = refl
-lay-append (p ∷ a) b y = lay-append a b (overlay p.at p.bytes y)
-
-overlay_is : (at : ℕ) (w y : List ℕ) → overlay at w y ≡ take at y ++ (w ++ drop (at + length w) y)
-overlay_is at w y = append_assoc (take at y) w (drop (at + length w) y)
-
-lay_one : (at : ℕ) (b y : List ℕ) → patched (patch at b) y ≡ overlay at b y
-lay_one at [] y = let z : at + 0 ≡ at = omega arith in sym (overlay_is at [] y ∙ ap (λ (k : ℕ). take at y ++ drop k y) z ∙ take-append-drop at y)
-lay_one at (x ∷ b) y = refl
 
 -- bytes laid over a file of which the front was changed
 laid_over : (b x w : List ℕ) (from at : ℕ) → length x ≡ from → from ≤ at → overlay at w (x ++ drop from b) ≡ (x ++ take (at - from) (drop from b)) ++ (w ++ drop (at + length w) b)
@@ -93,7 +79,7 @@ laid_from b x from (k ∷ ks) e h f = go f.0 (λ y len. laid_from b y (k.span.at
     front = x ++ take (k.span.at - from) (drop from b)
 
     first : patched (patch_of k ++ flat_map patch_of ks) (x ++ drop from b) ≡ patched (flat_map patch_of ks) (front ++ (k.bytes ++ drop (k.span.at + length k.bytes) b))
-    first = lay-append (patch_of k) (flat_map patch_of ks) (x ++ drop from b) ∙ ap (patched (flat_map patch_of ks)) (lay_one k.span.at k.bytes (x ++ drop from b) ∙ laid_over b x k.bytes from k.span.at e h.0)
+    first = patched-append (patch_of k) (flat_map patch_of ks) (x ++ drop from b) ∙ ap (patched (flat_map patch_of ks)) (patched_one k.span.at k.bytes (x ++ drop from b) ∙ laid_over b x k.bytes from k.span.at e h.0)
 
     go : (IsExact k) ⊎ (EndsFile (length b) k × (ks ≡ []))
         → ((y : List ℕ) → length y ≡ k.span.at + k.span.len → (m : List ℕ) × (patched (flat_map patch_of ks) (y ++ drop (k.span.at + k.span.len) b) ≡ (y ++ splice_from (k.span.at + k.span.len) (drop (k.span.at + k.span.len) b) (map (cut_in b) ks)) ++ m))
@@ -132,26 +118,3 @@ laid_splices b len new ks e h f is =
     let fits : FitsIn (length b) ks = subst (λ (n : ℕ). FitsIn n ks) (sym e) f in
     let done = laid_from b [] 0 ks refl ascend fits in
     ap (take new) done.1 ∙ take_at (splice b (map (cut_in b) ks)) done.0 new (spliced_length b len ks e h ∙ sym is)
-
--- ---- the words of the two models
-
-pub lay_is_patched : (ps : List Patch) (b : List ℕ) → patched ps b ≡ Room.patched ps b
-lay_is_patched [] b = refl
-lay_is_patched (p ∷ ps) b = lay_is_patched ps (overlay p.at p.bytes b) ∙ ap (Room.patched ps) (overlay_is p.at p.bytes b)
-
-pub same_total : (ps : List Patch) → Room.total ps ≡ all_bytes ps
-same_total [] = refl
-same_total (p ∷ ps) = ap (λ (n : ℕ). length p.bytes + n) (same_total ps)
-
-order_end : (from : ℕ) (ps : List Patch) (end : ℕ) → Order.InOrder from ps end → from ≤ end
-order_end from [] end h = h
-order_end from (p ∷ ps) end h = omega (arith, h.0, order_end (p.at + length p.bytes) ps end h.2)
-
-pub same_order : (from : ℕ) (ps : List Patch) (new : ℕ) → Order.InOrder from ps new → Patches.InOrder new from ps
-same_order from [] new h = tt
-same_order from (p ∷ ps) new h = (record { some = h.1; after = h.0; inside = order_end (p.at + length p.bytes) ps new h.2 }, same_order (p.at + length p.bytes) ps new h.2)
-
-pub same_touch : (q : ℕ) (ps : List Patch) → Order.InPatch q ps → Patches.Touches q ps
-same_touch q [] h = h
-same_touch q (p ∷ ps) (inl h) = inl h
-same_touch q (p ∷ ps) (inr h) = inr (same_touch q ps h)

@@ -3,20 +3,12 @@ use Rattle.std.proofs.Common.{◌≡◌, ◌∙◌, ◌⊎◌, ℕ, ◌+◌, ◌
 use Rattle.std.specs.List.{flat_map}
 use Rattle.part_tree.specs.declared.plan.Patch.{Patch}
 use Rattle.carrier_model.specs.Room.{patch}
+use Rattle.carrier_model.proofs.Patches.{all_bytes-append, patch_bytes, order_patch, touches_behind, touches_patch}
 use Rattle.part_tree.specs.Patches.{InOrder, Touches, Rules, all_bytes}
 use Rattle.unit_plan.specs.declared.cut.CutAt.{CutAt}
 use Rattle.unit_plan.specs.Cuts.{SpansAscend, FitsIn, IsExact, EndsFile, patch_of}
 use Rattle.unit_plan.specs.Sized.{gained, lost, IsTooMuch, spliced_len}
 use Rattle.unit_plan.proofs.Spans.{lost_low, next_item}
-
-order_low : (new high low : ℕ) (ps : List Patch) → low ≤ high → InOrder new high ps → InOrder new low ps
-order_low new high low [] le h = tt
-order_low new high low (p ∷ ps) le h = (record { some = h.0.some; after = omega (arith, h.0.after); inside = h.0.inside }, h.1)
-
--- one patch, or none
-order_patch : (new low at : ℕ) (bytes : List ℕ) (ps : List Patch) → low ≤ at → at + length bytes ≤ new → InOrder new (at + length bytes) ps → InOrder new low (patch at bytes ++ ps)
-order_patch new low at [] ps le fits h = order_low new (at + 0) low ps (omega arith) h
-order_patch new low at (x ∷ bytes) ps le fits h = (record { some = omega arith; after = le; inside = fits }, h)
 
 pub ordered : (from low len new : ℕ) (ks : List CutAt) → low ≤ from → SpansAscend from ks len → FitsIn len ks → new ≡ spliced_len len ks → InOrder new low (flat_map patch_of ks)
 ordered from low len new [] le h f e = tt
@@ -35,14 +27,6 @@ ordered from low len new (k ∷ ks) le h f e = go f.0 (λ at same low_at. ordere
         let nothing : (lost ks ≡ 0) × (gained ks ≡ 0) = (ap lost last.1, ap gained last.1) in
         subst (λ (ps : List Patch). InOrder new low (patch_of k ++ ps)) (sym none)
         (order_patch new low k.span.at k.bytes [] (omega (arith, h.0, le)) (omega (arith, e, nothing, last.0)) tt)
-
-touches_behind : (q : ℕ) (a b : List Patch) → Touches q b → Touches q (a ++ b)
-touches_behind q [] b h = h
-touches_behind q (p ∷ a) b h = inr (touches_behind q a b h)
-
-touches_patch : (q at : ℕ) (bytes : List ℕ) (ps : List Patch) → at ≤ q → q < at + length bytes → Touches q (patch at bytes ++ ps)
-touches_patch q at [] ps low high = absurd (omega (arith, low, high))
-touches_patch q at (x ∷ bytes) ps low high = inl (low, high)
 
 -- what the file gains is covered
 pub covered : (from len new : ℕ) (ks : List CutAt) → SpansAscend from ks len → FitsIn len ks → new ≡ spliced_len len ks → (q : ℕ) → len ≤ q → q < new → Touches q (flat_map patch_of ks)
@@ -77,14 +61,6 @@ keeps_rules len new ks ps h f e old_fits new_fits is few small = record {
 pub patch_some : (at : ℕ) (bytes : List ℕ) → 1 ≤ length bytes → patch at bytes ≡ record { at = at; bytes = bytes } ∷ []
 patch_some at [] h = absurd (omega (arith, h))
 patch_some at (x ∷ bytes) h = refl
-
-all_bytes-append : (a b : List Patch) → all_bytes (a ++ b) ≡ all_bytes a + all_bytes b
-all_bytes-append [] b = omega arith
-all_bytes-append (p ∷ a) b = omega (arith, all_bytes-append a b)
-
-patch_bytes : (at : ℕ) (bytes : List ℕ) → all_bytes (patch at bytes) ≡ length bytes
-patch_bytes at [] = refl
-patch_bytes at (x ∷ bytes) = omega arith
 
 next_patches : (ks : List CutAt) (i : ℕ) (k : CutAt) → i < length ks → k ≡ get_or ks i k → flat_map patch_of (drop i ks) ≡ patch_of k ++ flat_map patch_of (drop (i + 1) ks)
 next_patches ks i k lt e = ap (flat_map patch_of) (next_item ks i k lt e)

@@ -3,7 +3,7 @@ use Rattle.std.specs.Prelude.{◌<◌, ◌⊎◌, ◌^◌, ℕ, ◌+◌, ◌-◌
 use Rattle.std.specs.Int.{w32, w64, to_le_bytes}
 use Rattle.part_tree.specs.declared.plan.Patch.{Patch}
 use Rattle.container_model.specs.Splice.{Cut}
-use Rattle.part_tree.specs.Patches.{InOrder, all_bytes}
+use Rattle.part_tree.specs.Patches.{all_bytes}
 use Rattle.unit_plan.specs.declared.cut.CutAt.{CutAt}
 
 -- the bytes that stand in place of all spans
@@ -23,10 +23,6 @@ spliced_len len ks = (len - lost ks) + gained ks
 -- patches that are too many for a journal, or have too many bytes
 abbrev pub IsTooMuch : List Patch → Type 0
 IsTooMuch ps = (65536 < length ps) ⊎ (2 ^ 24 < all_bytes ps)
-
--- the order that a journal asks for, in a file of so many bytes
-abbrev pub IsOrder : ℕ → List Patch → Type 0
-IsOrder new ps = InOrder new 0 ps
 
 -- ---- the size of a form: in its own field at 4, or where it is wide in a table at 20
 

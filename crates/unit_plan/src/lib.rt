@@ -2,19 +2,15 @@
 //! It knows the padding of RIFF, and no kind of file.
 #![tactic(auto)]
 
-ghost use Rattle.std.specs.Prelude.{◌≡◌, ◌∷◌, ℕ, List, Bool, true, false, length, map, take};
-ghost use Rattle.part_tree.specs.declared.plan.Patch.{Patch};
+ghost use Rattle.std.specs.Prelude.{◌≡◌, ◌∷◌, ℕ, List, Bool, true, false, length, map};
 ghost use Rattle.container_model.specs.Chunk.{Chunk};
 ghost use Rattle.container_model.specs.Units.{Cell};
 ghost use Rattle.container_model.specs.Splice.{Ascend, Cut, splice};
-ghost use Rattle.carrier_model.specs.Order.{InOrder, InPatch};
-ghost use Rattle.carrier_model.specs.Room.{patched, total};
-ghost use Rattle.part_tree.specs.Patches.{Touches, all_bytes, laid};
 ghost use Rattle.unit_plan.specs.declared.cut.CutAt.{CutAt};
 ghost use Rattle.unit_plan.specs.Shapes.{shape_of};
 ghost use Rattle.unit_plan.specs.Rows.{IsPartCount, cells_outcome, none, row};
 ghost use Rattle.unit_plan.specs.Cuts.{SpansAscend, cut_in};
-ghost use Rattle.unit_plan.specs.Sized.{IsOrder, size_cut, sized, spliced_len};
+ghost use Rattle.unit_plan.specs.Sized.{size_cut, sized, spliced_len};
 
 mod cut;
 mod form;
@@ -55,12 +51,4 @@ pub fn size_is_a_cut()
 pub fn spans_tell()
     ensures ascend { (from end : ℕ) (ks : List CutAt) (b : List ℕ) → SpansAscend from ks end → Ascend from (map (cut_in b) ks) end }
     ensures len { (b : List ℕ) (len : ℕ) (ks : List CutAt) → length b ≡ len → SpansAscend 0 ks len → length (splice b (map (cut_in b) ks)) ≡ spliced_len len ks }
-{}
-
-/// Patches in order that cover what a file gains keep the rules of a journal, which lays them as they are laid one after another.
-pub fn patches_keep_rules()
-    ensures laid { (ps : List Patch) (new : ℕ) (b : List ℕ) → laid new ps b ≡ take new (patched ps b) }
-    ensures total { (ps : List Patch) → total ps ≡ all_bytes ps }
-    ensures order { (new : ℕ) (ps : List Patch) → InOrder 0 ps new → IsOrder new ps }
-    ensures covers { (q : ℕ) (ps : List Patch) → InPatch q ps → Touches q ps }
 {}

@@ -16,6 +16,7 @@ use Rattle.container_model.proofs.Reread.{CellPads}
 use Rattle.container_model.proofs.Items.{same_true}
 use Rattle.carrier_model.specs.Info.{own_size, one_of}
 use Rattle.carrier_model.specs.Room.{patch, unit_patches}
+use Rattle.carrier_model.proofs.Patches.{one_patch}
 use Rattle.wave_model.specs.Wave.{wave_of, inner, cells_of}
 use Rattle.wave_model.specs.Fields.{has_id, body_in, bodies, fields}
 use Rattle.wave_model.specs.Carry.{steps, carried}
@@ -39,10 +40,6 @@ abbrev copies : List Piece → ℕ
 copies [] = 0
 copies (copied c ∷ ps) = suc (copies ps)
 copies (replaced lead slot now last ∷ ps) = copies ps
-
-one_patch : (at : ℕ) (b : List ℕ) → length (patch at b) ≤ 1
-one_patch at [] = omega arith
-one_patch at (x ∷ b) = omega arith
 
 -- a unit with a patch has a chunk
 unit_few : (at : ℕ) (lead now more : List Chunk) → length (patch at ((lead_pad lead ++ spell_all now) ++ take 8 (spell_all more))) ≤ length (map padded lead ++ (now ++ more))

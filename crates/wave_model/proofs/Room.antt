@@ -7,21 +7,23 @@ use Rattle.std.proofs.lemmas.Bool.{and_parts, cond-true, eqb-true, eq-eqb, leb-t
 use Rattle.std.proofs.lemmas.List.{append-nil, length-append, length-drop, take_at}
 use Rattle.part_tree.specs.declared.field.EditItem.{EditItem}
 use Rattle.part_tree.specs.declared.plan.Patch.{Patch}
+use Rattle.part_tree.specs.Patches.{InOrder, Touches, all_bytes, patched, laid}
 use Rattle.field_model.specs.Update.{RawItem, raw_items}
 use Rattle.container_model.specs.Chunk.{Form, riff, wide, short, long, to_end, Chunk, header_bytes, spell_all}
 use Rattle.container_model.specs.Units.{shut, old_bytes}
 use Rattle.container_model.proofs.Codec.{IsBytes}
 use Rattle.container_model.proofs.Units.{BringsPad, units_old, units_bring}
-use Rattle.carrier_model.specs.Room.{units_fit, patch, unit_patches, total, patched}
-use Rattle.carrier_model.proofs.Room.{LastOnly, last_units, patched-append, patched_one, fitting_length, units_patched}
+use Rattle.carrier_model.specs.Room.{units_fit, patch, unit_patches}
+use Rattle.carrier_model.proofs.Patches.{overlay_is, patched-append, patched_one, order_low, order_patch, touches_behind}
+use Rattle.carrier_model.proofs.Fitted.{AllFit, LastOnly, last_units, fitting_length, units_patched, units_in_order, units_cover}
+use Rattle.carrier_model.proofs.Room.{riff_fits}
 use Rattle.wave_model.specs.Wave.{is_big, Wave, wave_of, inner, spell_wave, cells_of}
 use Rattle.wave_model.specs.Fields.{fields}
 use Rattle.wave_model.specs.Carry.{steps, carried}
 use Rattle.wave_model.specs.New.{is_nil, ends_file, fill_of, pieces_of, new_children, new_size, new_pad, with_riff_size, sized_ds64, new_wave, new_file, children_at, with_size}
 use Rattle.wave_model.specs.Edited.{Supported}
-use Rattle.wave_model.specs.Room.{size_patch, patches_in, patches, has_room, Room, SoundPatches}
-use Rattle.carrier_model.specs.Order.{InOrder, InPatch}
-use Rattle.carrier_model.proofs.Order.{order_low, order_patch, in_behind, units_in_order, units_cover}
+use Rattle.wave_model.specs.Room.{size_patch, patches_in, patches, has_room, Room}
+use Rattle.carrier_model.specs.Order.{SoundPatches}
 use Rattle.wave_model.proofs.Steps.{was_carried}
 use Rattle.wave_model.proofs.Cells.{was_cells}
 use Rattle.wave_model.proofs.Again.{field_of, FormFine, IsForm, spelled, field_len}
@@ -116,12 +118,12 @@ module _ (o : List ℕ) (bytes : IsBytes o) (sup : Supported o) (e : List RawIte
     where
       go : (t : Bool) → patched (cond t [] (patch 4 (to_le_bytes w32 n))) b ≡ cond t b (with_size riff n b)
       go true = refl
-      go false = patched_one 4 (to_le_bytes w32 n) b
+      go false = patched_one 4 (to_le_bytes w32 n) b ∙ overlay_is 4 (to_le_bytes w32 n) b
   size_patched wide g k n b = go (eqb k n)
     where
       go : (t : Bool) → patched (cond t [] (patch 20 (to_le_bytes w64 n))) b ≡ cond t b (with_size wide n b)
       go true = refl
-      go false = patched_one 20 (to_le_bytes w64 n) b
+      go false = patched_one 20 (to_le_bytes w64 n) b ∙ overlay_is 20 (to_le_bytes w64 n) b
   size_patched short g k n b = absurd g
   size_patched long g k n b = absurd g
   size_patched to_end g k n b = absurd g
@@ -164,7 +166,7 @@ module _ (o : List ℕ) (bytes : IsBytes o) (sup : Supported o) (e : List RawIte
           let q = and_parts (is_nil (wave_of o).pad) (is_nil (wave_of o).tail) p.1 in
           ap (λ (x : List ℕ). (wave_of o).left ++ (x ++ (wave_of o).tail)) (gone (eqb (length (inner (wave_of o))) (new_size (wave_of o) e)) (none (wave_of o).tail q.1) (none (wave_of o).pad q.0))
       go false t =
-          let len = fitting_length (ends_file (wave_of o)) t (pieces_of (wave_of o) e) (units_bring shut (carried (steps e) (cells_of (wave_of o))) tt) fit in
+          let len = fitting_length (fill_of (wave_of o)) (ends_file (wave_of o)) t (pieces_of (wave_of o) e) (units_bring shut (carried (steps e) (cells_of (wave_of o))) tt) (riff_fits (ends_file (wave_of o)) (pieces_of (wave_of o) e) fit) in
           let same : length (inner (wave_of o)) ≡ new_size (wave_of o) e
           = omega (arith, len, ap length old_is, length-append (spell_all (wave_of o).ds64) (spell_all (wave_of o).children ++ (wave_of o).left), length-append (spell_all (wave_of o).children) (wave_of o).left, length-append (spell_all (wave_of o).ds64) (spell_all (new_children (wave_of o) e) ++ (wave_of o).left), length-append (spell_all (new_children (wave_of o) e)) (wave_of o).left) in
           ap (λ (x : List ℕ). (wave_of o).left ++ (x ++ (wave_of o).tail)) (idle (length (inner (wave_of o))) (new_size (wave_of o) e) same)
@@ -179,7 +181,7 @@ module _ (o : List ℕ) (bytes : IsBytes o) (sup : Supported o) (e : List RawIte
   new_front : has_room (wave_of o) e ≡ true → front (wave_of o) (new_size (wave_of o) e) ++ (spell_all (new_children (wave_of o) e) ++ ((wave_of o).left ++ ((wave_of o).pad ++ (wave_of o).tail))) ≡ spell_wave (new_wave (wave_of o) e)
   new_front room =
       let v = wave_of o in
-      let fit = (and_parts (units_fit (ends_file v) (pieces_of v e)) (leb (total (patches_in v e)) (2 ^ 24)) room).0 in
+      let fit = (and_parts (units_fit (ends_file v) (pieces_of v e)) (leb (all_bytes (patches_in v e)) (2 ^ 24)) room).0 in
       ap (λ (z : List ℕ). front v (new_size v e) ++ (spell_all (new_children v e) ++ z)) (sym (behind_is fit))
       ∙ sym (new_spelled v e (old_form o bytes sup) (length_new o bytes sup e) ∙ regroup v.id (field_of v.form (new_size v e)) (spell_all (new_wave v e).ds64) (spell_all (new_children v e) ++ (v.left ++ (new_pad (length (inner v)) (new_size v e) v.pad v.tail ++ v.tail))))
     where
@@ -189,25 +191,21 @@ module _ (o : List ℕ) (bytes : IsBytes o) (sup : Supported o) (e : List RawIte
   patched_new : has_room (wave_of o) e ≡ true → (m : List ℕ) × (patched (patches_in (wave_of o) e) o ≡ spell_wave (new_wave (wave_of o) e) ++ m)
   patched_new room =
       let v = wave_of o in
-      let fit = (and_parts (units_fit (ends_file v) (pieces_of v e)) (leb (total (patches_in v e)) (2 ^ 24)) room).0 in
+      let fit = (and_parts (units_fit (ends_file v) (pieces_of v e)) (leb (all_bytes (patches_in v e)) (2 ^ 24)) room).0 in
       let r = v.left ++ (v.pad ++ v.tail) in
       let ps = pieces_of v e in
       let y = flat_map old_bytes ps ++ r in
       let us = unit_patches (fill_of v) (children_at v) ps in
-      let done = units_patched (ends_file v) (children_at v) (front v (new_size v e)) ps r front_len (last_units shut (carried (steps e) (cells_of v))) (units_bring shut (carried (steps e) (cells_of v)) tt) fit (λ t. nothing_behind room t) in (
+      let done = units_patched (fill_of v) (ends_file v) (children_at v) (front v (new_size v e)) ps r front_len (last_units shut (carried (steps e) (cells_of v))) (units_bring shut (carried (steps e) (cells_of v)) tt) (riff_fits (ends_file v) ps fit) (λ t. nothing_behind room t) in (
         done.0,
         patched-append (size_patch v.form (length (inner v)) (new_size v e)) us o
             ∙ ap (patched us) (ap (patched (size_patch v.form (length (inner v)) (new_size v e))) (old_front y (ap (λ (z : List ℕ). z ++ r) (sym old_is))) ∙ front_patched y)
             ∙ done.1 ∙ ap (λ (z : List ℕ). z ++ done.0) (new_front room),
       )
 
-order_high : (from : ℕ) (ps : List Patch) (end high : ℕ) → end ≤ high → InOrder from ps end → InOrder from ps high
-order_high from [] end high l h = omega arith
-order_high from (p ∷ ps) end high l h = (h.0, h.1, order_high (p.at + length p.bytes) ps end high l h.2)
-
 module _ (o : List ℕ) (bytes : IsBytes o) (sup : Supported o) (e : List RawItem) (room : has_room (wave_of o) e ≡ true) where
-  fit : units_fit (ends_file (wave_of o)) (pieces_of (wave_of o) e) ≡ true
-  fit = (and_parts (units_fit (ends_file (wave_of o)) (pieces_of (wave_of o) e)) (leb (total (patches_in (wave_of o) e)) (2 ^ 24)) room).0
+  fit : AllFit (fill_of (wave_of o)) (ends_file (wave_of o)) (pieces_of (wave_of o) e)
+  fit = riff_fits (ends_file (wave_of o)) (pieces_of (wave_of o) e) (and_parts (units_fit (ends_file (wave_of o)) (pieces_of (wave_of o) e)) (leb (all_bytes (patches_in (wave_of o) e)) (2 ^ 24)) room).0
 
   brings : BringsPad (pieces_of (wave_of o) e)
   brings = units_bring shut (carried (steps e) (cells_of (wave_of o))) tt
@@ -243,44 +241,51 @@ module _ (o : List ℕ) (bytes : IsBytes o) (sup : Supported o) (e : List RawIte
           let len : length (spell_all (wave_of o).ds64) ≡ length (spell_all (d ∷ [])) = ap (λ (ds : List Chunk). length (spell_all ds)) h.1 in
           omega (arith, len, h.2.long, length-append (header_bytes d.form d.id (length d.body) ++ (d.body ++ d.pad)) [], length-append (header_bytes d.form d.id (length d.body)) (d.body ++ d.pad), length-append d.body d.pad)
 
-  size_first : (form : Form) → IsForm form → (form ≡ wide → 28 ≤ children_at (wave_of o)) → (k n : ℕ) (ps : List Patch) (end : ℕ) → InOrder (children_at (wave_of o)) ps end → InOrder 0 (size_patch form k n ++ ps) end
-  size_first riff g l k n ps end h = go (eqb k n)
+  size_first : (form : Form) → IsForm form → (form ≡ wide → 28 ≤ children_at (wave_of o)) → (k n new : ℕ) (ps : List Patch) → children_at (wave_of o) ≤ new → InOrder new (children_at (wave_of o)) ps → InOrder new 0 (size_patch form k n ++ ps)
+  size_first riff g l k n new ps r h = go (eqb k n)
     where
-      go : (t : Bool) → InOrder 0 (cond t [] (patch 4 (to_le_bytes w32 n)) ++ ps) end
-      go true = order_low 0 (children_at (wave_of o)) ps end (omega arith) h
-      go false = order_patch 0 4 (to_le_bytes w32 n) ps end (omega arith) (order_low 8 (children_at (wave_of o)) ps end (omega arith) h)
-  size_first wide g l k n ps end h = go (eqb k n)
-    where
-      go : (t : Bool) → InOrder 0 (cond t [] (patch 20 (to_le_bytes w64 n)) ++ ps) end
-      go true = order_low 0 (children_at (wave_of o)) ps end (omega arith) h
-      go false = order_patch 0 20 (to_le_bytes w64 n) ps end (omega arith) (order_low 28 (children_at (wave_of o)) ps end (l refl) h)
-  size_first short g l k n ps end h = absurd g
-  size_first long g l k n ps end h = absurd g
-  size_first to_end g l k n ps end h = absurd g
+      inside : 8 ≤ new
+      inside = omega (arith, r)
 
-  ordered : InOrder 0 (patches_in (wave_of o) e) (length (spell_wave (new_wave (wave_of o) e)))
+      go : (t : Bool) → InOrder new 0 (cond t [] (patch 4 (to_le_bytes w32 n)) ++ ps)
+      go true = order_low new 0 (children_at (wave_of o)) ps (omega arith) h
+      go false = order_patch new 0 4 (to_le_bytes w32 n) ps (omega arith) inside (order_low new 8 (children_at (wave_of o)) ps (omega arith) h)
+  size_first wide g l k n new ps r h = go (eqb k n)
+    where
+      inside : 28 ≤ new
+      inside = omega (arith, r, l refl)
+
+      go : (t : Bool) → InOrder new 0 (cond t [] (patch 20 (to_le_bytes w64 n)) ++ ps)
+      go true = order_low new 0 (children_at (wave_of o)) ps (omega arith) h
+      go false = order_patch new 0 20 (to_le_bytes w64 n) ps (omega arith) inside (order_low new 28 (children_at (wave_of o)) ps (l refl) h)
+  size_first short g l k n new ps r h = absurd g
+  size_first long g l k n new ps r h = absurd g
+  size_first to_end g l k n new ps r h = absurd g
+
+  ordered : InOrder (length (spell_wave (new_wave (wave_of o) e))) 0 (patches_in (wave_of o) e)
   ordered =
       let v = wave_of o in
       let ps = pieces_of v e in
       let us = unit_patches (fill_of v) (children_at v) ps in
-      size_first v.form (old_form o bytes sup) ds64_long (length (inner v)) (new_size v e) us (length (spell_wave (new_wave v e)))
-      (order_high (children_at v) us (children_at v + length (spell_all (new_children v e))) (length (spell_wave (new_wave v e))) (omega (arith, new_length)) (units_in_order (ends_file v) (children_at v) (children_at v) ps (omega arith) lasts brings fit))
+      let long = length (spell_wave (new_wave v e)) in
+      let inside : children_at v + length (spell_all (new_children v e)) ≤ long = omega (arith, new_length) in
+      size_first v.form (old_form o bytes sup) ds64_long (length (inner v)) (new_size v e) long us (omega (arith, inside)) (units_in_order (fill_of v) (ends_file v) long (children_at v) (children_at v) ps (omega arith) inside lasts brings fit)
 
-  covered : (q : ℕ) → length o ≤ q → q < length (spell_wave (new_wave (wave_of o) e)) → InPatch q (patches_in (wave_of o) e)
+  covered : (q : ℕ) → length o ≤ q → q < length (spell_wave (new_wave (wave_of o) e)) → Touches q (patches_in (wave_of o) e)
   covered q low high = go (ends_file (wave_of o)) refl
     where
-      go : (t : Bool) → ends_file (wave_of o) ≡ t → InPatch q (patches_in (wave_of o) e)
+      go : (t : Bool) → ends_file (wave_of o) ≡ t → Touches q (patches_in (wave_of o) e)
       go true t =
           let v = wave_of o in
           let none : length (v.left ++ (v.pad ++ v.tail)) ≡ 0 = ap length (nothing_behind o bytes sup e room t) in
-          in_behind q (size_patch v.form (length (inner v)) (new_size v e)) (unit_patches (fill_of v) (children_at v) (pieces_of v e))
-          (units_cover (ends_file v) (children_at v) (pieces_of v e) q lasts brings fit (omega (arith, low, old_length, none)) (omega (arith, high, new_length, none)))
+          touches_behind q (size_patch v.form (length (inner v)) (new_size v e)) (unit_patches (fill_of v) (children_at v) (pieces_of v e))
+          (units_cover (fill_of v) (ends_file v) (children_at v) (pieces_of v e) q lasts brings fit (omega (arith, low, old_length, none)) (omega (arith, high, new_length, none)))
       go false t =
-          let len = fitting_length (ends_file (wave_of o)) t (pieces_of (wave_of o) e) brings fit in
+          let len = fitting_length (fill_of (wave_of o)) (ends_file (wave_of o)) t (pieces_of (wave_of o) e) brings fit in
           absurd (omega (arith, len, low, high, old_length, new_length))
 
 -- The patches of an edit that has room, laid over the old file at the new length, make the new file.
-pub room_law : (o : List ℕ) (e : List EditItem) → IsBytes o → Supported o → Room o e → new_file o e ≡ take (length (new_file o e)) (patched (patches o e) o)
+pub room_law : (o : List ℕ) (e : List EditItem) → IsBytes o → Supported o → Room o e → new_file o e ≡ laid (length (new_file o e)) (patches o e) o
 unfolding new_file
 room_law o e bytes sup room =
     let r = raw_items (fields o) e in
@@ -295,6 +300,6 @@ order_law o e bytes sup room =
     let r = raw_items (fields o) e in
     record {
       in_order = ordered o bytes sup r room;
-      few_bytes = leb-true (total (patches_in (wave_of o) r)) (2 ^ 24) (and_parts (units_fit (ends_file (wave_of o)) (pieces_of (wave_of o) r)) (leb (total (patches_in (wave_of o) r)) (2 ^ 24)) room).1;
+      few_bytes = leb-true (all_bytes (patches_in (wave_of o) r)) (2 ^ 24) (and_parts (units_fit (ends_file (wave_of o)) (pieces_of (wave_of o) r)) (leb (all_bytes (patches_in (wave_of o) r)) (2 ^ 24)) room).1;
       cover = covered o bytes sup r room;
     }

@@ -21,7 +21,7 @@ use Rattle.wave_model.specs.New.{new_file}
 use Rattle.wave_model.specs.Edited.{pieces}
 use Rattle.wave_model.specs.Large.{too_large}
 use Rattle.wave_model.specs.Map.{parts_of_file, sound}
-use Rattle.carrier_model.specs.Room.{patched}
+use Rattle.part_tree.specs.Patches.{patched}
 use Rattle.wave_model.specs.Why.{why}
 use Rattle.wave_model.specs.Room.{patches, has_room}
 

@@ -1,12 +1,12 @@
 -- Whether an edit fits in place, and the patches that make it there (this project's own).
-use Rattle.std.specs.Prelude.{◌≡◌, ◌≤◌, ◌<◌, ℕ, ◌^◌, List, [], ◌++◌, length, Bool, true, ◌&&◌, ◌==◌, nat_le, if◌then◌else◌}
+use Rattle.std.specs.Prelude.{◌≡◌, ℕ, ◌^◌, List, [], ◌++◌, length, Bool, true, ◌&&◌, ◌==◌, nat_le, if◌then◌else◌}
 use Rattle.std.specs.Int.{w32, w64, to_le_bytes}
 use Rattle.part_tree.specs.declared.field.EditItem.{EditItem}
 use Rattle.part_tree.specs.declared.plan.Patch.{Patch}
+use Rattle.part_tree.specs.Patches.{all_bytes}
 use Rattle.field_model.specs.Update.{RawItem, raw_items}
 use Rattle.container_model.specs.Chunk.{Form, wide}
-use Rattle.carrier_model.specs.Order.{InOrder, InPatch}
-use Rattle.carrier_model.specs.Room.{units_fit, patch, unit_patches, total}
+use Rattle.carrier_model.specs.Room.{units_fit, patch, unit_patches}
 use Rattle.wave_model.specs.Wave.{Wave, wave_of, inner}
 use Rattle.wave_model.specs.Fields.{fields}
 use Rattle.wave_model.specs.New.{ends_file, fill_of, pieces_of, new_size, children_at}
@@ -26,14 +26,8 @@ patches o e = patches_in (wave_of o) (raw_items (fields o) e)
 
 -- whether the edit fits in place
 abbrev pub has_room : Wave → List RawItem → Bool
-has_room w e = units_fit (ends_file w) (pieces_of w e) && nat_le (total (patches_in w e)) (2 ^ 24)
+has_room w e = units_fit (ends_file w) (pieces_of w e) && nat_le (all_bytes (patches_in w e)) (2 ^ 24)
 
 -- each unit fits its slot, and the patches have at most 16 MiB
 abbrev pub Room : List ℕ → List EditItem → Type 0
 Room o e = has_room (wave_of o) (raw_items (fields o) e) ≡ true
-
--- Patches in order that lie in a file's new length, have at most 16 MiB, and cover what it gains.
-pub record SoundPatches (old new : ℕ) (ps : List Patch) : Type 0 where
-  pub in_order : InOrder 0 ps new
-  pub few_bytes : total ps ≤ 2 ^ 24
-  pub cover : (q : ℕ) → old ≤ q → q < new → InPatch q ps

@@ -19,8 +19,9 @@ ghost use Rattle.wave_model.specs.Edited.{Supported, Edited, parts, sounds};
 ghost use Rattle.wave_model.specs.Map.{parts_of_file, chunks_in, told_body, sound};
 ghost use Rattle.wave_model.specs.Large.{too_large, FormSmall};
 ghost use Rattle.wave_model.specs.Why.{why};
-ghost use Rattle.wave_model.specs.Room.{Room, patches, SoundPatches};
-ghost use Rattle.carrier_model.specs.Room.{patched};
+ghost use Rattle.wave_model.specs.Room.{Room, patches};
+ghost use Rattle.carrier_model.specs.Order.{SoundPatches};
+ghost use Rattle.part_tree.specs.Patches.{laid};
 
 /// For every supported file and every edit that breaks no basic rule and is not too large, the new file is the old one
 /// edited: it is supported; its fields read back as the old ones updated; every other part is kept in its order; the
@@ -62,7 +63,7 @@ pub fn new_file_is_no_larger()
 /// in order, lie in the new file, have at most 16 MiB, cover what the file gains, and are at most 65,536 where the edit
 /// isn't too large.
 pub fn patches_make_the_file()
-    ensures made { (o : List ℕ) (e : List EditItem) → IsBytes o → Supported o → Room o e → new_file o e ≡ take (length (new_file o e)) (patched (patches o e) o) }
+    ensures made { (o : List ℕ) (e : List EditItem) → IsBytes o → Supported o → Room o e → new_file o e ≡ laid (length (new_file o e)) (patches o e) o }
     ensures sound { (o : List ℕ) (e : List EditItem) → IsBytes o → Supported o → Room o e → SoundPatches (length o) (length (new_file o e)) (patches o e) }
     ensures few { (o : List ℕ) (e : List EditItem) → IsBytes o → Supported o → too_large o e ≡ None → length (patches o e) ≤ 65536 }
 {}

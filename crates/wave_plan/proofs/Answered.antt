@@ -24,7 +24,7 @@ use Rattle.unit_plan.specs.declared.row.UnitCuts.{UnitCuts}
 use Rattle.unit_plan.specs.Cuts.{patch_of}
 use Rattle.unit_plan.specs.Sized.{IsTooMuch, spliced_len}
 use Rattle.unit_plan.specs.Planned as Units
-use Rattle.unit_plan.proofs.Overlaid.{same_total, spliced_length}
+use Rattle.unit_plan.proofs.Overlaid.{spliced_length}
 use Rattle.wave_plan.specs.declared.frame.Frame.{Frame}
 use Rattle.wave_plan.specs.Frame.{IsFrame}
 use Rattle.wave_plan.specs.Framed.{framed}
@@ -102,7 +102,7 @@ module _ (b : List ℕ) (e : List EditItem) (bytes : IsBytes b) (sup : Supported
       → (p : Plan) → CanRun p → Units.IsPlanOf u.fits f.len new (flat_map patch_of (framed f n u.cuts.items)) p → IsForm b e p
   form_told n new sum is long small (InPlace old m qs) can h =
       let ps : qs ≡ patches b e = h.3 ∙ patches_told b e bytes sup f fr u comes st n sum is h.0 in
-      let bytes_few : all_bytes (patches b e) ≤ 2 ^ 24 = omega (arith, can.small, same_total (patches b e), ap all_bytes ps) in (
+      let bytes_few : all_bytes (patches b e) ≤ 2 ^ 24 = omega (arith, can.small, ap all_bytes ps) in (
         both_true (units_fit (ends_file (wave_of b)) (pieces_of (wave_of b) (raw_items (fields b) e))) (leb (all_bytes (patches b e)) (2 ^ 24)) (sym (fits_are b e bytes sup f fr u comes st) ∙ h.0) (le-leb (all_bytes (patches b e)) (2 ^ 24) bytes_few),
         h.1 ∙ fr.len,
         h.2 ∙ long,
@@ -122,4 +122,4 @@ module _ (b : List ℕ) (e : List EditItem) (bytes : IsBytes b) (sup : Supported
       by room (inr (inr much)) =
           let p = and_parts (units_fit (ends_file (wave_of b)) (pieces_of (wave_of b) (raw_items (fields b) e))) (leb (all_bytes (patches b e)) (2 ^ 24)) room in
           let ps = patches_told b e bytes sup f fr u comes st n sum is (fits_are b e bytes sup f fr u comes st ∙ p.0) in
-          absurd (omega (arith, much, ap all_bytes ps, same_total (patches b e), leb-true (all_bytes (patches b e)) (2 ^ 24) p.1))
+          absurd (omega (arith, much, ap all_bytes ps, leb-true (all_bytes (patches b e)) (2 ^ 24) p.1))

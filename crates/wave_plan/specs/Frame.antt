@@ -1,7 +1,22 @@
 -- What stands round the chunks of a form in its file: its header, its pad and the tail (RIFF; EBU Tech 3306 for RF64).
 use Rattle.std.specs.Prelude.{◌≡◌, ◌≤◌, ◌<◌, ◌^◌, ℕ, ◌+◌, ◌-◌, ◌%◌, ◌==◌, List, length, take, true, ◌&&◌, nat_lt, if◌then◌else◌}
-use Rattle.wave_model.specs.Wave.{is_big, is_wide, wave_of, inner}
+use Rattle.wave_model.specs.Wave.{is_big, is_wide, wave_of, form_size, inner}
+use Rattle.wave_model.specs.Edited.{Supported}
+use Rattle.wave_plan.specs.declared.frame.FormAt.{FormAt}
 use Rattle.wave_plan.specs.declared.frame.Frame.{Frame}
+
+-- The file is supported, and its form is told: whether its kind has `ds64`, the file's length, and where the form ends.
+pub record IsFormOf (b : List ℕ) (f : FormAt) : Type 0 where
+  pub supported : Supported b
+  pub big : f.big ≡ is_big (take 4 b)
+  pub len : f.len ≡ length b
+  pub end : f.end ≡ 8 + form_size b
+
+-- whatever the file: the form has its header and its type, and ends in a file that a depot can hold
+pub record IsSoundForm (f : FormAt) : Type 0 where
+  pub small : f.len < 2 ^ 63
+  pub low : 12 ≤ f.end
+  pub inside : f.end ≤ f.len
 
 -- what is told of a file
 pub record IsFrame (b : List ℕ) (f : Frame) : Type 0 where

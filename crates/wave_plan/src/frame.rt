@@ -5,11 +5,17 @@ ghost use Rattle.me_disk.specs.Steps.{HasCause, ReadsOnly};
 ghost use Rattle.me_disk.specs.Holds.{Holds};
 ghost use Rattle.wave_model.specs.Wave.{is_wide, wave_of};
 ghost use Rattle.wave_model.specs.New.{children_at};
-ghost use Rattle.wave_file.specs.Map.{IsMapOf, IsSound};
-ghost use Rattle.wave_plan.specs.Frame.{IsFrame, IsRound, pad_after};
+ghost use Rattle.wave_plan.specs.Frame.{IsFormOf, IsFrame, IsRound, IsSoundForm, pad_after};
 
 use me_disk::{Depot, DepotFault, Slot};
-use wave_file::WaveMap;
+
+/// A form in its file: whether it is one of those that have `ds64`, the length of the file, and the byte where the form ends.
+#[derive(Clone, Copy, Debug, PartialEq, Eq)]
+pub struct FormAt {
+    pub big: bool,
+    pub len: u64,
+    pub end: u64,
+}
 
 /// What stands round the chunks of a form: whether the form is one of those that have `ds64`, whether its size stands there,
 /// the length of the file, the form's size, and the length of its pad, all in bytes.
@@ -23,14 +29,14 @@ pub struct Frame {
 }
 
 // Whether the form's size stands in `ds64`, which ends at the byte `from` or before it: where the header's own field is FFFFFFFF.
-fn reads_wide<D: Depot>(depot: &mut D, map: &WaveMap, from: u64) -> Result<bool, DepotFault>
-    requires map { (b : List ℕ) → Holds (D.disk depot.old) b → IsMapOf b map.now }
+fn reads_wide<D: Depot>(depot: &mut D, form: FormAt, from: u64) -> Result<bool, DepotFault>
+    requires form { (b : List ℕ) → Holds (D.disk depot.old) b → IsFormOf b form }
     ensures wide { (b : List ℕ) → Holds (D.disk depot.old) b → IsBytes b → from ≡ children_at (wave_of b) → IfOk result (λ w. w ≡ is_wide b) }
     ensures table { IfOk result (λ w. w ≡ true → 28 ≤ from) }
     ensures reads { ReadsOnly (D.disk depot.old) (D.disk depot.new) }
     ensures cause { HasCause (D.disk depot.old) (D.disk depot.new) result }
 {
-    if map.ds64.is_none() {
+    if !form.big {
         return Ok(false);
     }
     if from < 28 {
@@ -42,22 +48,22 @@ fn reads_wide<D: Depot>(depot: &mut D, map: &WaveMap, from: u64) -> Result<bool,
 }
 
 /// What stands round the chunks of a form, of which the first one behind `ds64` begins at the byte `from`.
-pub fn read_frame<D: Depot>(depot: &mut D, map: &WaveMap, from: u64) -> Result<Frame, DepotFault>
-    requires map { (b : List ℕ) → Holds (D.disk depot.old) b → IsMapOf b map.now }
-    requires sound { IsSound map.now }
+pub fn read_frame<D: Depot>(depot: &mut D, form: FormAt, from: u64) -> Result<Frame, DepotFault>
+    requires form { (b : List ℕ) → Holds (D.disk depot.old) b → IsFormOf b form }
+    requires sound { IsSoundForm form }
     ensures frame { (b : List ℕ) → Holds (D.disk depot.old) b → IsBytes b → from ≡ children_at (wave_of b) → IfOk result (λ f. IsFrame b f) }
-    ensures round { IfOk result (λ f. (end : ℕ) → 12 ≤ from → end ≤ map.now.form_end → IsRound from end f) }
-    ensures len { IfOk result (λ f. f.len ≡ map.now.len) }
+    ensures round { IfOk result (λ f. (end : ℕ) → 12 ≤ from → end ≤ form.end → IsRound from end f) }
+    ensures len { IfOk result (λ f. f.len ≡ form.len) }
     ensures reads { ReadsOnly (D.disk depot.old) (D.disk depot.new) }
     ensures cause { HasCause (D.disk depot.old) (D.disk depot.new) result }
 {
-    let wide = reads_wide(depot, map, from)?;
-    let size = map.form_end - 8;
-    let pad = pad_of(size, map.len - map.form_end);
+    let wide = reads_wide(depot, form, from)?;
+    let size = form.end - 8;
+    let pad = pad_of(size, form.len - form.end);
     Ok(Frame {
-        big: map.ds64.is_some(),
+        big: form.big,
         wide,
-        len: map.len,
+        len: form.len,
         size,
         pad,
     })

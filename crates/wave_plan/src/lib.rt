@@ -11,6 +11,6 @@ mod row;
 mod tests;
 
 pub use fault::PlanFault;
-pub use frame::{Frame, read_frame};
+pub use frame::{FormAt, Frame, read_frame};
 pub use plan::{Passed, plan_units};
 pub use row::plan_row;

@@ -10,34 +10,33 @@ ghost use Rattle.unit_plan.specs.Shapes.{shape_of};
 ghost use Rattle.unit_plan.specs.Places.{Follow, shape_in};
 ghost use Rattle.wave_model.specs.Wave.{wave_of};
 ghost use Rattle.wave_model.specs.New.{children_at};
-ghost use Rattle.wave_file.specs.Map.{IsMapOf, IsSound};
+ghost use Rattle.wave_plan.specs.Frame.{IsFormOf, IsSoundForm};
 ghost use Rattle.wave_plan.specs.Planned.{IsListed, PlansEdit, edited_cells, part_count};
 
 use crate::fault::PlanFault;
-use crate::frame::read_frame;
+use crate::frame::{FormAt, read_frame};
 use crate::plan::plan_units;
 use me_disk::Depot;
 use part_tree::Plan;
 use std::alloc::Global;
 use unit_plan::{Place, unit_cuts};
-use wave_file::WaveMap;
 
-/// The plan of an edit of a form, whose chunks behind `ds64` have these places, from the byte `from` up to the byte `end` of the
-/// file. `TooLarge` is the first of these that passes its limit: the parts, the form's size in its own field, and the file.
-/// `Depot` only where the count of the depot's faults rose.
+/// The plan of an edit of a form that stands there, whose chunks behind `ds64` have these places, from the byte `from` up to the
+/// byte `end` of the file. `TooLarge` is the first of these that passes its limit: the parts, the form's size in its own field,
+/// and the file. `Depot` only where the count of the depot's faults rose.
 pub fn plan_row<D: Depot>(
     alloc: Global,
     depot: &mut D,
-    wave: &WaveMap,
+    form: FormAt,
     places: &[Place],
     from: u64,
     end: u64,
 ) -> Result<Plan, PlanFault>
-    requires mapped { (b : List ℕ) → Holds (D.disk depot.old) b → IsMapOf b wave.now }
-    requires sound { IsSound wave.now }
+    requires form { (b : List ℕ) → Holds (D.disk depot.old) b → IsFormOf b form }
+    requires sound { IsSoundForm form }
     requires follow { Follow from places.now end }
     requires low { 12 ≤ from }
-    requires high { end ≤ wave.now.form_end }
+    requires high { end ≤ form.end }
     ensures plans { (b : List ℕ) (e : List EditItem) → Holds (D.disk depot.old) b → IsBytes b → from ≡ children_at (wave_of b)
         → map (shape_in b) places.now ≡ map (shape_of part_count) (edited_cells b e) → IsListed b e → PlansEdit b e result }
     ensures can { IfOk result (λ p. CanRun p) }
@@ -45,11 +44,11 @@ pub fn plan_row<D: Depot>(
     ensures reads { ReadsOnly (D.disk depot.old) (D.disk depot.new) }
     ensures cause { result ≡ Err PlanFault.Depot → Rose (D.disk depot.old).faults (D.disk depot.new).faults }
 {
-    let frame = match read_frame(depot, wave, from) {
+    let frame = match read_frame(depot, form, from) {
         Err(_) => return Err(PlanFault::Depot),
         Ok(frame) => frame,
     };
-    let units = match unit_cuts(alloc, places, from, end, end == wave.len) {
+    let units = match unit_cuts(alloc, places, from, end, end == form.len) {
         Err(_) => return Err(PlanFault::Memory),
         Ok(units) => units,
     };

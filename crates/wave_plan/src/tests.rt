@@ -2,13 +2,12 @@
 ghost use Rattle.std.specs.Prelude.{◌≡◌, IfOk};
 ghost use Rattle.unit_plan.specs.Places.{Follow};
 
-use crate::{PlanFault, plan_row};
+use crate::{FormAt, PlanFault, plan_row};
 use me_disk::{MemoryDepot, Room};
 use part_tree::{Bytes, NoMemory, Plan};
 use std::alloc::{AllocError, Global};
 use std::test::Fail;
 use unit_plan::{Place, What};
-use wave_file::read_wave;
 
 const F48: [u8; 48] = [
     0x52, 0x49, 0x46, 0x46, 0x28, 0x00, 0x00, 0x00, 0x57, 0x41, 0x56, 0x45, 0x66, 0x6D, 0x74, 0x20,
@@ -62,14 +61,12 @@ fn planned(alloc: Global, places: &[Place]) -> Result<Result<Plan, PlanFault>, F
         Err(_) => return Err(Fail::from(AllocError)),
         Ok(depot) => depot,
     };
-    let wave = match read_wave(alloc, &mut depot) {
-        Err(_) => return Err(Fail::from(AllocError)),
-        Ok(wave) => wave,
+    let form = FormAt {
+        big: false,
+        len: 48,
+        end: 48,
     };
-    if wave.form_end < 48 {
-        return Err(Fail::from(AllocError));
-    }
-    Ok(plan_row(alloc, &mut depot, &wave, places, 12, 48))
+    Ok(plan_row(alloc, &mut depot, form, places, 12, 48))
 }
 
 // A list of 24 bytes at the end; 610 bytes before `fmt `; and more parts than a file may have.

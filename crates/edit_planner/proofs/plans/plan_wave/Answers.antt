@@ -1,4 +1,4 @@
-use Rattle.std.proofs.Common.{ap, sym, ◌∙◌, ◌≡◌, ◌^◌, ℕ}
+use Rattle.std.proofs.Common.{ap, arith, sym, ◌∙◌, ◌≡◌, ◌^◌, ℕ}
 use Rattle.std.specs.Prelude.{Some}
 use Rattle.me_disk.proofs.Holds.{holds_on}
 use Rattle.part_tree.specs.Fields.{values}
@@ -23,8 +23,11 @@ returns-in-Err-TooLarge-clause-plans g c = λ b holds bytes.
     let some : first_above (list_sizes b r) ≡ Some (limited (2 ^ 24) c.in-Err-TooLarge.size) = rw c.in-Err-TooLarge.field-0-is at (c.in-Err-TooLarge.ensures.row b bytes holds) in
     list_large b m e r (limited (2 ^ 24) c.in-Err-TooLarge.size) known c.requires.ready is some ∙ ap (λ (n : ℕ). Some (limited (2 ^ 24) n)) (sym c.in-Err-TooLarge.size-is)
 
-pub plan_row-requires-clause-mapped : goal.plan_row-requires-clause-mapped
-plan_row-requires-clause-mapped g c = λ b holds. c.requires.mapped b (holds_back (g.D.Depot.disk c.args.depot.now) (g.D.Depot.disk c.places_of.new.depot) b c.in-Ok-places_of.ensures.reads holds)
+pub plan_row-requires-clause-form : goal.plan_row-requires-clause-form
+plan_row-requires-clause-form g c = λ b holds. c.form_of-form.ensures.form b (c.requires.mapped b (holds_back (g.D.Depot.disk c.args.depot.now) (g.D.Depot.disk c.places_of.new.depot) b c.in-Ok-places_of.ensures.reads holds))
+
+pub plan_row-requires-clause-high : goal.plan_row-requires-clause-high
+plan_row-requires-clause-high g c = omega (arith, c.form_of-form.ensures.end, c.in-Ok-places_of.ensures.inside.2)
 
 pub returns-in-Err-plan_row-clause-plans : goal.returns-in-Err-plan_row-clause-plans
 returns-in-Err-plan_row-clause-plans g c = λ b holds bytes.

@@ -1,0 +1,4 @@
+pub mod Windows
+pub mod Spans
+pub mod Entries
+pub mod Checks

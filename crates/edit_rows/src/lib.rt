@@ -1,0 +1,23 @@
+//! Worked runs of the editor over depots in memory: what each run answers, leaves and prints, and what is left where a run is
+//! stopped after one of its calls, or within it, and then recovered.
+#![tactic(auto)]
+
+mod files;
+mod rows;
+mod runs;
+mod sparse;
+mod stops;
+#[cfg(test)]
+mod tests;
+
+pub use files::{
+    CHECKED, DATED, EMPTY, EMPTY_TITLED, JOURNAL, LARGE, LARGE_TITLED, LOUD, NUMBERED, ODD,
+    ODD_TITLED, PLAIN, SHORT, TITLED, TITLES, VERSION_AT, described, with_bext,
+};
+pub use rows::{Held, Row, goes};
+pub use runs::{Ran, depot_of, holds, paper, run_on, run_told, words_of};
+pub use sparse::{HELLO, five_gigabytes, full_wave, has_len, shows};
+pub use stops::{
+    NO_EDIT, RECOVER, calls_of, is_done_within, is_recovered, pick_of, plain, stop, stopped,
+    survives, survives_twice,
+};

@@ -1,0 +1,116 @@
+// Worked rows: a run on a file, and what it is to answer, print, write and leave.
+use crate::runs::{Ran, depot_of, holds, run_told};
+use me_disk::MemoryDepot;
+use metaedit_top::{Outcome, Summary, code, line_of};
+use part_tree::NoMemory;
+use std::alloc::Global;
+
+/// A file and a journal beside it.
+#[derive(Clone, Copy)]
+pub struct Held<'a> {
+    pub main: Option<&'a [u8]>,
+    pub journal: Option<&'a [u8]>,
+}
+
+impl<'a> Held<'a> {
+    /// A file beside which no journal stands.
+    pub fn alone(main: &'a [u8]) -> Held<'a> {
+        Held {
+            main: Some(main),
+            journal: None,
+        }
+    }
+}
+
+/// A run, and what it is to answer, tell, print, write and leave.
+#[derive(Clone, Copy)]
+pub struct Row<'a> {
+    pub words: &'a [&'a str],
+    pub before: Held<'a>,
+    pub outcome: Outcome,
+    pub status: u8,
+    pub line: &'a str,
+    pub printed: &'a str,
+    pub written: u64,
+    pub after: Held<'a>,
+}
+
+impl<'a> Row<'a> {
+    /// A run that is done with a file, and leaves it as it is until `with` says otherwise.
+    pub fn done(
+        words: &'a [&'a str],
+        file: &'a [u8],
+        summary: Summary,
+        printed: &'a str,
+    ) -> Row<'a> {
+        Row {
+            words,
+            before: Held::alone(file),
+            outcome: Outcome::Done(summary),
+            status: 0,
+            line: "",
+            printed,
+            written: 0,
+            after: Held::alone(file),
+        }
+    }
+
+    /// A run that is refused, and leaves the file as it is.
+    pub fn refused(
+        words: &'a [&'a str],
+        file: &'a [u8],
+        outcome: Outcome,
+        status: u8,
+        line: &'a str,
+    ) -> Row<'a> {
+        Row {
+            words,
+            before: Held::alone(file),
+            outcome,
+            status,
+            line,
+            printed: "",
+            written: 0,
+            after: Held::alone(file),
+        }
+    }
+
+    /// The same run, with the status 1 where it has findings.
+    pub fn with_status(self, has_findings: bool) -> Row<'a> {
+        Row {
+            status: u8::from(has_findings),
+            ..self
+        }
+    }
+
+    /// The same run that writes so many bytes, and leaves this file.
+    pub fn leaving(self, file: &'a [u8], written: u64) -> Row<'a> {
+        Row {
+            written,
+            after: Held::alone(file),
+            ..self
+        }
+    }
+}
+
+/// Whether the run goes as the row says.
+pub fn goes(alloc: Global, row: &Row<'_>) -> Result<bool, NoMemory> {
+    let mut depot = depot_of(alloc, row.before.main, row.before.journal, &[])?;
+    let ran = run_told(alloc, row.words, &mut depot)?;
+    Ok(ran.outcome == row.outcome && is_told(alloc, &ran, row)? && is_left(&depot, row))
+}
+
+// Whether the status, the line and the report are those of the row.
+fn is_told(alloc: Global, ran: &Ran, row: &Row<'_>) -> Result<bool, NoMemory> {
+    let line = line_of(alloc, &ran.outcome)?;
+    Ok(
+        code(&ran.outcome) == row.status
+            && line.as_slice() == row.line.as_bytes()
+            && ran.out.written() == row.printed.as_bytes(),
+    )
+}
+
+// Whether what is left is what the row says.
+fn is_left(depot: &MemoryDepot, row: &Row<'_>) -> bool {
+    depot.written() == row.written && holds(depot, row.after.main, row.after.journal)
+}

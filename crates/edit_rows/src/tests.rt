@@ -1,0 +1,475 @@
+// Worked runs, by what each shows.
+use crate::files::{
+    CHECKED, DATED, EMPTY, EMPTY_TITLED, JOURNAL, LARGE, LARGE_TITLED, LOUD, NUMBERED, ODD,
+    ODD_TITLED, PLAIN, SHORT, TITLED, TITLES, VERSION_AT, described, with_bext,
+};
+use crate::rows::{Held, Row, goes};
+use crate::runs::{depot_of, holds, paper, run_on, run_told, words_of};
+use crate::sparse::{HELLO, five_gigabytes, full_wave, has_len, shows};
+use crate::stops::{NO_EDIT, RECOVER, calls_of, plain, survives, survives_twice};
+use me_disk::FailAt;
+use metaedit_top::{Outcome, Summary, UsageFault, Why};
+use part_tree::{BextField, Broken, FieldName, FourCc};
+use std::process::Abort;
+use std::test::Fail;
+
+const TITLE: &[&str] = &["set", "f.wav", "INAM=Hi"];
+
+const IN_PLACE: Summary = Summary {
+    changed: true,
+    in_place: true,
+    payload: 4,
+    findings: 0,
+};
+
+const REWRITTEN: Summary = Summary {
+    changed: true,
+    in_place: false,
+    payload: 4,
+    findings: 0,
+};
+
+const READ: Summary = Summary {
+    changed: false,
+    in_place: false,
+    payload: 4,
+    findings: 0,
+};
+
+const CHANGED: &str = "done changed in-place essence 4\n";
+
+#[test]
+fn a_title_is_set_in_place(rt: HostRuntime) -> Result<(), Fail> {
+    let row = Row::done(TITLE, PLAIN, IN_PLACE, CHANGED).leaving(TITLED, 104);
+    assert!(rt; goes(rt.alloc(), &row)?);
+    Ok(())
+}
+
+#[test]
+fn a_title_that_stands_is_not_set_again(rt: HostRuntime) -> Result<(), Fail> {
+    let row = Row::done(TITLE, TITLED, READ, "done unchanged essence 4\n");
+    assert!(rt; goes(rt.alloc(), &row)?);
+    Ok(())
+}
+
+#[test]
+fn a_title_goes_behind_a_sound_of_no_bytes(rt: HostRuntime) -> Result<(), Fail> {
+    let summary = Summary {
+        payload: 0,
+        ..IN_PLACE
+    };
+    let printed = "done changed in-place essence 0\n";
+    let row = Row::done(TITLE, EMPTY, summary, printed).leaving(EMPTY_TITLED, 104);
+    assert!(rt; goes(rt.alloc(), &row)?);
+    Ok(())
+}
+
+#[test]
+fn a_title_goes_behind_the_pad_of_an_odd_sound(rt: HostRuntime) -> Result<(), Fail> {
+    let summary = Summary {
+        payload: 3,
+        ..IN_PLACE
+    };
+    let printed = "done changed in-place essence 3\n";
+    let row = Row::done(TITLE, ODD, summary, printed).leaving(ODD_TITLED, 106);
+    assert!(rt; goes(rt.alloc(), &row)?);
+    Ok(())
+}
+
+#[test]
+fn a_description_of_256_letters_is_a_new_chunk(rt: HostRuntime) -> Result<(), Fail> {
+    let item = described(rt.alloc(), 256)?;
+    let words = ["set", "f.wav", item.as_str()];
+    let after = with_bext(rt.alloc(), 0, &[b'x'; 256])?;
+    let printed = "done changed rewrite essence 4\n";
+    let row = Row::done(&words, PLAIN, REWRITTEN, printed).leaving(&after, 658);
+    assert!(rt; goes(rt.alloc(), &row)?);
+    Ok(())
+}
+
+fn breaks(rule: u8, field: FieldName) -> Outcome {
+    Outcome::RuleBroken(Broken { rule, field })
+}
+
+#[test]
+fn a_description_of_257_letters_is_too_wide(rt: HostRuntime) -> Result<(), Fail> {
+    let item = described(rt.alloc(), 257)?;
+    let words = ["set", "f.wav", item.as_str()];
+    let outcome = breaks(5, FieldName::Bext(BextField::Description));
+    let line = "refused 7 BASE-WIDTH Description\n";
+    let row = Row::refused(&words, PLAIN, outcome, 7, line);
+    assert!(rt; goes(rt.alloc(), &row)?);
+    Ok(())
+}
+
+#[test]
+fn a_loudness_raises_the_version(rt: HostRuntime) -> Result<(), Fail> {
+    let words = ["set", "f.wav", "LoudnessValue=-23.00"];
+    let before = with_bext(rt.alloc(), 0, &[])?;
+    let after = with_bext(rt.alloc(), VERSION_AT, LOUD)?;
+    let row = Row::done(&words, &before, IN_PLACE, CHANGED).leaving(&after, 1256);
+    assert!(rt; goes(rt.alloc(), &row)?);
+    Ok(())
+}
+
+#[test]
+fn a_umid_of_128_letters_is_64_bytes(rt: HostRuntime) -> Result<(), Fail> {
+    let item =
+        "UMID=AAAAAAAAAAAAAAAAAAAAAAAAAAAAAAAAAAAAAAAAAAAAAAAAAAAAAAAAAAAAAAAAAAAAAAAAAAAAAAAAAAAAAAAAAAAAAAAAAAAAAAAAAAAAAAAAAAAAAAAAAAAAAAAA";
+    let words = ["set", "f.wav", item];
+    let before = with_bext(rt.alloc(), 0, &[])?;
+    let after = with_bext(rt.alloc(), VERSION_AT, NUMBERED)?;
+    let row = Row::done(&words, &before, IN_PLACE, CHANGED).leaving(&after, 1256);
+    assert!(rt; goes(rt.alloc(), &row)?);
+    Ok(())
+}
+
+#[test]
+fn a_list_keeps_its_titles_in_their_order(rt: HostRuntime) -> Result<(), Fail> {
+    let words = ["set", "f.wav", "ICRD=2024"];
+    let row = Row::done(&words, TITLES, IN_PLACE, CHANGED).leaving(DATED, 148);
+    assert!(rt; goes(rt.alloc(), &row)?);
+    Ok(())
+}
+
+#[test]
+fn an_rf64_file_keeps_its_form(rt: HostRuntime) -> Result<(), Fail> {
+    let words = ["set", "r.wav", "INAM=Hi"];
+    let row = Row::done(&words, LARGE, IN_PLACE, CHANGED).leaving(LARGE_TITLED, 112);
+    assert!(rt; goes(rt.alloc(), &row)?);
+    Ok(())
+}
+
+#[test]
+fn the_fields_of_a_file_are_shown_in_field_order(rt: HostRuntime) -> Result<(), Fail> {
+    let rows: [(&[u8], &str); 2] = [
+        (DATED, "kind wave\nessence 4\nICRD=2024\nINAM=A\nINAM=B\n"),
+        (LARGE_TITLED, "kind rf64\nessence 4\nINAM=Hi\n"),
+    ];
+    for (file, printed) in rows {
+        let row = Row::done(&["show", "f.wav"], file, READ, printed);
+        assert!(rt; goes(rt.alloc(), &row)?);
+    }
+    Ok(())
+}
+
+#[test]
+fn checksums_are_told_and_compared(rt: HostRuntime) -> Result<(), Fail> {
+    let rows: [(&[u8], u64, u32, &str); 3] = [
+        (
+            ODD,
+            3,
+            0,
+            "stored none\ncomputed 900150983cd24fb0d6963f7d28e17f72\n",
+        ),
+        (
+            EMPTY,
+            0,
+            0,
+            "stored none\ncomputed d41d8cd98f00b204e9800998ecf8427e\n",
+        ),
+        (
+            CHECKED,
+            3,
+            1,
+            "stored 00000000000000000000000000000000\ncomputed 900150983cd24fb0d6963f7d28e17f72\n",
+        ),
+    ];
+    for (file, payload, findings, printed) in rows {
+        let summary = Summary {
+            payload,
+            findings,
+            ..READ
+        };
+        let row = Row::done(&["md5", "f.wav"], file, summary, printed).with_status(findings > 0);
+        assert!(rt; goes(rt.alloc(), &row)?);
+    }
+    Ok(())
+}
+
+#[test]
+fn rules_that_a_file_breaks_are_told(rt: HostRuntime) -> Result<(), Fail> {
+    let summary = Summary {
+        findings: 3,
+        ..READ
+    };
+    let printed =
+        "rule FADGI-DESCRIPTION Description\nrule FADGI-ORIGINATOR Originator\nrule FADGI-DATE OriginationDate\nfindings 3\n";
+    let row = Row::done(&["validate", "f.wav"], PLAIN, summary, printed).with_status(true);
+    assert!(rt; goes(rt.alloc(), &row)?);
+    Ok(())
+}
+
+#[test]
+fn a_file_that_is_cut_short_is_refused(rt: HostRuntime) -> Result<(), Fail> {
+    let outcome = Outcome::NotSupported(Why::Truncated { at: 36 });
+    let line = "refused 5 NotSupported Truncated 36\n";
+    let row = Row::refused(TITLE, SHORT, outcome, 5, line);
+    assert!(rt; goes(rt.alloc(), &row)?);
+    Ok(())
+}
+
+fn check_words(
+    rt: &(impl Abort + AllocGlobal),
+    words: &[&str],
+    fault: UsageFault,
+    line: &str,
+) -> Result<(), Fail> {
+    let row = Row::refused(words, PLAIN, Outcome::Usage(fault), 2, line);
+    assert!(rt; goes(rt.alloc(), &row)?);
+    Ok(())
+}
+
+#[test]
+fn words_without_a_command_are_refused(rt: HostRuntime) -> Result<(), Fail> {
+    let line = "refused 2 Usage NoCommand\n";
+    check_words(&rt, &[], UsageFault::NoCommand, line)?;
+    let line = "refused 2 Usage UnknownCommand\n";
+    check_words(&rt, &["sett", "f.wav"], UsageFault::UnknownCommand, line)
+}
+
+#[test]
+fn words_that_a_command_does_not_take_are_refused(rt: HostRuntime) -> Result<(), Fail> {
+    let line = "refused 2 Usage Words\n";
+    let rows: [&[&str]; 4] = [
+        &["show"],
+        &["recover"],
+        &["set", "-f.wav", "INAM=Hi"],
+        &["set", "f.wav", "--rules", "eby", "INAM=Hi"],
+    ];
+    for words in rows {
+        check_words(&rt, words, UsageFault::Words, line)?;
+    }
+    Ok(())
+}
+
+#[test]
+fn words_that_are_no_items_are_refused(rt: HostRuntime) -> Result<(), Fail> {
+    let words = ["set", "f.wav", "INAM"];
+    check_words(
+        &rt,
+        &words,
+        UsageFault::Item { n: 1 },
+        "refused 2 Usage Item 1\n",
+    )?;
+    let words = ["set", "f.wav", "INAM=a", "=Hi"];
+    check_words(
+        &rt,
+        &words,
+        UsageFault::Item { n: 2 },
+        "refused 2 Usage Item 2\n",
+    )?;
+    let words = ["set", "f.wav", "XXXX=1"];
+    check_words(
+        &rt,
+        &words,
+        UsageFault::Field { n: 1 },
+        "refused 2 Usage Field 1\n",
+    )?;
+    let words = ["set", "f.wav", "INAM=a", "INAM=b"];
+    check_words(
+        &rt,
+        &words,
+        UsageFault::Twice { n: 2 },
+        "refused 2 Usage Twice 2\n",
+    )
+}
+
+fn check_rule(
+    rt: &(impl Abort + AllocGlobal),
+    words: &[&str],
+    outcome: Outcome,
+    line: &str,
+) -> Result<(), Fail> {
+    let row = Row::refused(words, PLAIN, outcome, 7, line);
+    assert!(rt; goes(rt.alloc(), &row)?);
+    Ok(())
+}
+
+#[test]
+fn an_edit_that_breaks_a_rule_is_refused(rt: HostRuntime) -> Result<(), Fail> {
+    let words = ["set", "f.wav", "--rules", "ebu", "CodingHistory=A=PCM"];
+    let outcome = breaks(14, FieldName::Bext(BextField::CodingHistory));
+    check_rule(
+        &rt,
+        &words,
+        outcome,
+        "refused 7 EBU-HISTORY CodingHistory\n",
+    )?;
+    let words = ["set", "f.wav", "--rules=fadgi", "Description=x"];
+    let outcome = breaks(23, FieldName::Bext(BextField::Originator));
+    check_rule(
+        &rt,
+        &words,
+        outcome,
+        "refused 7 FADGI-ORIGINATOR Originator\n",
+    )?;
+    let outcome = breaks(1, FieldName::User(FourCc(*b"\xa9nam")));
+    check_rule(
+        &rt,
+        &["set", "f.wav", "@nam=x"],
+        outcome,
+        "refused 7 BASE-KIND @nam\n",
+    )
+}
+
+#[test]
+fn a_device_that_fails_leaves_the_file(rt: HostRuntime) -> Result<(), Fail> {
+    let failing = FailAt {
+        call: 3,
+        done: false,
+    };
+    let mut depot = depot_of(rt.alloc(), Some(PLAIN), None, &[failing])?;
+    let ran = run_told(rt.alloc(), TITLE, &mut depot)?;
+    assert!(rt; ran.outcome == Outcome::DepotFault { faults: 1 });
+    assert!(rt; ran.out.written().is_empty());
+    assert!(rt; holds(&depot, Some(PLAIN), None));
+    Ok(())
+}
+
+#[test]
+fn an_output_that_fails_leaves_the_new_file(rt: HostRuntime) -> Result<(), Fail> {
+    let words = words_of(rt.alloc(), TITLE)?;
+    let mut depot = plain(rt.alloc())?;
+    let mut out = paper(rt.alloc(), &[1])?;
+    let outcome = run_on(rt.alloc(), &words, &mut depot, &mut out);
+    assert!(rt; outcome == Outcome::OutFault { edited: true });
+    assert!(rt; holds(&depot, Some(TITLED), None));
+    Ok(())
+}
+
+#[test]
+fn a_journal_is_redone(rt: HostRuntime) -> Result<(), Fail> {
+    let before = Held {
+        main: Some(PLAIN),
+        journal: Some(JOURNAL),
+    };
+    let row = Row::done(RECOVER, PLAIN, NO_EDIT, "recovered redone\n").leaving(TITLED, 28);
+    assert!(rt; goes(rt.alloc(), &Row { before, ..row })?);
+    Ok(())
+}
+
+#[test]
+fn a_journal_that_is_cut_short_is_damaged(rt: HostRuntime) -> Result<(), Fail> {
+    let held = Held {
+        main: Some(PLAIN),
+        journal: Some(&JOURNAL[..75]),
+    };
+    let outcome = Outcome::JournalDamaged { at: 75 };
+    let row = Row::refused(RECOVER, PLAIN, outcome, 4, "refused 4 JournalDamaged 75\n");
+    let row = Row {
+        before: held,
+        after: held,
+        ..row
+    };
+    assert!(rt; goes(rt.alloc(), &row)?);
+    Ok(())
+}
+
+#[test]
+fn a_recovery_needs_a_file(rt: HostRuntime) -> Result<(), Fail> {
+    let held = Held {
+        main: None,
+        journal: None,
+    };
+    let row = Row::refused(RECOVER, PLAIN, Outcome::NoFile, 3, "refused 3 NoFile\n");
+    let row = Row {
+        before: held,
+        after: held,
+        ..row
+    };
+    assert!(rt; goes(rt.alloc(), &row)?);
+    Ok(())
+}
+
+// The last call of a rewrite puts the new file in place of the old one.
+#[test]
+fn a_rewrite_stopped_anywhere_leaves_the_old_file_or_the_new(rt: HostRuntime) -> Result<(), Fail> {
+    let item = described(rt.alloc(), 256)?;
+    let words = ["set", "f.wav", item.as_str()];
+    let new = with_bext(rt.alloc(), 0, &[b'x'; 256])?;
+    let calls = calls_of(rt.alloc(), &words)?;
+    assert!(rt; calls < 100);
+    for n in 0..calls + 1 {
+        let want: &[u8] = if n < calls { PLAIN } else { &new };
+        for k in 0..613 {
+            assert!(rt; survives(rt.alloc(), &words, n, k, want)?);
+        }
+    }
+    Ok(())
+}
+
+// The last eight calls of an edit in place are those that write; from the fourth of them on the journal stands.
+#[test]
+fn an_edit_in_place_stopped_anywhere_is_recovered(rt: HostRuntime) -> Result<(), Fail> {
+    let calls = calls_of(rt.alloc(), TITLE)?;
+    assert!(rt; 8 < calls && calls < 100);
+    for n in 0..calls + 1 {
+        let want = if n + 4 < calls { PLAIN } else { TITLED };
+        for k in 0..31 {
+            assert!(rt; survives(rt.alloc(), TITLE, n, k, want)?);
+        }
+    }
+    Ok(())
+}
+
+// The k-th crash after n calls of the edit in place is recovered, also where the recovery is stopped after each of its calls, or
+// within it.
+fn check_twice(
+    rt: &(impl Abort + AllocGlobal),
+    first: (u64, u64),
+    ways: u64,
+    want: &[u8],
+) -> Result<(), Fail> {
+    for m in 0..20 {
+        for again in 0..ways {
+            assert!(rt; survives_twice(rt.alloc(), TITLE, first, (m, again), want)?);
+        }
+    }
+    Ok(())
+}
+
+#[test]
+fn a_stopped_recovery_is_taken_up_again(rt: HostRuntime) -> Result<(), Fail> {
+    let calls = calls_of(rt.alloc(), TITLE)?;
+    assert!(rt; 8 < calls && calls < 100);
+    for n in calls - 5..calls + 1 {
+        let want = if n + 4 < calls { PLAIN } else { TITLED };
+        for k in 0..31 {
+            check_twice(&rt, (n, k), 3, want)?;
+        }
+        check_twice(&rt, (n, 0), 31, want)?;
+    }
+    Ok(())
+}
+
+#[test]
+fn a_sound_of_five_gigabytes_is_not_read(rt: HostRuntime) -> Result<(), Fail> {
+    let mut depot = five_gigabytes(rt.alloc())?;
+    let ran = run_told(rt.alloc(), &["set", "f.wav", "INAM=Hello"], &mut depot)?;
+    let summary = Summary {
+        payload: 5_000_000_000,
+        ..IN_PLACE
+    };
+    assert!(rt; ran.outcome == Outcome::Done(summary));
+    assert!(rt; ran.out.written() == b"done changed in-place essence 5000000000\n".as_slice());
+    assert!(rt; depot.written() == 104);
+    assert!(rt; depot.bytes_read() <= 1_048_576);
+    assert!(rt; shows(&mut depot, 72, HELLO));
+    assert!(rt; has_len(&mut depot, 5_000_001_128));
+    Ok(())
+}
+
+#[test]
+fn a_wave_file_does_not_pass_four_gigabytes(rt: HostRuntime) -> Result<(), Fail> {
+    let mut depot = full_wave(rt.alloc())?;
+    let ran = run_told(rt.alloc(), TITLE, &mut depot)?;
+    let outcome = Outcome::TooLarge {
+        size: 4_294_967_304,
+        limit: 4_294_967_295,
+    };
+    assert!(rt; ran.outcome == outcome);
+    assert!(rt; depot.written() == 0);
+    assert!(rt; has_len(&mut depot, 4_294_967_288));
+    Ok(())
+}

@@ -1,0 +1,5 @@
+pub mod Front
+pub mod Rows
+pub mod Judged
+pub mod Left
+pub mod Places
