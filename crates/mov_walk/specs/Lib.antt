@@ -1,0 +1,4 @@
+pub mod Holder
+pub mod Walked
+pub mod Tests
+pub mod Tables

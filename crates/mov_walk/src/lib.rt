@@ -1,0 +1,16 @@
+//! The atoms of a QuickTime movie in the order of reading: those of the file, then those in `moov`, depth first (QuickTime
+//! File Format, atoms; what is opened and refused is this project's own). It reads headers and the heads of tables, and
+//! never the essence.
+#![tactic(auto)]
+
+mod holder;
+mod reading;
+mod tables;
+#[cfg(test)]
+mod tests;
+mod tests_of;
+mod walk;
+
+pub use holder::Holder;
+pub use reading::Reading;
+pub use walk::{walk_file, walk_moov};

@@ -1,0 +1,96 @@
+// A movie worked by hand, and movies of which an atom is refused.
+use crate::{Reading, walk_file, walk_moov};
+use me_disk::{Depot, MemoryDepot, Room, Slot};
+use part_tree::{ReadFault, Role, Span, Why};
+use std::alloc::{AllocError, Global};
+use std::test::Fail;
+
+// `ftyp`; `moov` with a track whose `stbl` has a place, and a name; `mdat`.
+const MOVIE: [u8; 119] =
+    *b"\0\0\0\x0Cftypqt  \0\0\0_moov\0\0\04trak\0\0\0,mdia\0\0\0$minf\0\0\0\x1Cstbl\0\0\0\x14stco\0\0\0\0\0\0\0\x01\0\0\0w\0\0\0\x08free\0\0\0\x1Budta\0\0\0\x0F\xA9nam\0\x03\x15\xC7abc\0\0\0\0\0\0\0\x0Cmdat\x01\x02\x03\x04";
+
+fn depot_of(alloc: Global, file: &[u8]) -> Result<MemoryDepot, AllocError> {
+    let room = Room {
+        calls: 10,
+        bytes: 200,
+    };
+    match MemoryDepot::new(
+        alloc,
+        Some(file.to_vec(alloc)?),
+        None,
+        room,
+        Vec::new(alloc),
+    ) {
+        Ok(depot) => Ok(depot),
+        Err(_) => Err(AllocError),
+    }
+}
+
+// What is met of a file, and of the `moov` whose body is this.
+fn walk<D: Depot>(alloc: Global, depot: &mut D, moov: Span) -> Result<Reading, ReadFault> {
+    let len = match depot.len(Slot::Main) {
+        Err(_) => return Err(ReadFault::Depot),
+        Ok(len) => len,
+    };
+    let mut reading = Reading::new(alloc);
+    walk_file(&mut reading, depot, len)?;
+    if moov.at > len || moov.len > len - moov.at {
+        return Err(ReadFault::Why(Why::NoMoov));
+    }
+    walk_moov(&mut reading, depot, moov)?;
+    Ok(reading)
+}
+
+#[test]
+fn meets_each_atom_in_order(rt: HostRuntime) -> Result<(), Fail> {
+    let mut depot = depot_of(rt.alloc(), &MOVIE)?;
+    let reading = walk(rt.alloc(), &mut depot, Span { at: 20, len: 87 })?;
+    let places = [0, 12, 107, 20, 28, 36, 44, 52, 72, 80, 88];
+    assert_eq!(rt; reading.parts.len(), places.len());
+    for (part, at) in reading.parts.iter().zip(&places) {
+        assert_eq!(rt; part.at, *at);
+    }
+    assert_eq!(rt; reading.parts[2].role, Role::Essence);
+    assert_eq!(rt; reading.parts[7].role, Role::Tables);
+    assert_eq!(rt; reading.parts[8].role, Role::Padding);
+    assert_eq!(rt; reading.parts[9].role, Role::UserData);
+    assert_eq!(rt; reading.parts[10].role, Role::Opaque);
+    assert_eq!(rt;
+        reading.mdats.as_slice(),
+        [Span { at: 115, len: 4 }].as_slice()
+    );
+    Ok(())
+}
+
+#[test]
+fn refuses_by_the_first_reason(rt: HostRuntime) -> Result<(), Fail> {
+    // the place of four other bytes, these, and the refusal
+    let rows: [(usize, [u8; 4], Why); 10] = [
+        (4, *b"moof", Why::Fragments { at: 0 }),
+        (16, *b"xoov", Why::NoMoov),
+        (111, *b"moov", Why::TwoMoov),
+        (76, *b"cmov", Why::Compressed),
+        (76, *b"rmra", Why::Reference),
+        (76, *b"mvex", Why::Fragments { at: 72 }),
+        (56, *b"saio", Why::OtherOffsets { track: 1 }),
+        (64, *b"\0\0\0\x02", Why::TableShort { at: 52 }),
+        (72, *b"\0\0\0\x07", Why::SizeSmall { at: 72 }),
+        (88, *b"\0\0\0\x20", Why::Truncated { at: 88 }),
+    ];
+    for (at, word, why) in rows {
+        let mut file = MOVIE;
+        if at <= 115 {
+            file[at] = word[0];
+            file[at + 1] = word[1];
+            file[at + 2] = word[2];
+            file[at + 3] = word[3];
+        }
+        let mut depot = depot_of(rt.alloc(), &file)?;
+        let fault = match walk(rt.alloc(), &mut depot, Span { at: 20, len: 87 }) {
+            Ok(_) => None,
+            Err(fault) => Some(fault),
+        };
+        assert_eq!(rt; fault, Some(ReadFault::Why(why)));
+    }
+    Ok(())
+}
