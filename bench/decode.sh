@@ -8,11 +8,6 @@
 set -eu
 . "$(dirname -- "$0")/program.sh"
 
-wrong() {
-    echo "WRONG $*"
-    exit 1
-}
-
 decoded() { # TOOL FILE: checksum and count of bytes of the samples
     case $1 in
     ffmpeg) ffmpeg -v error -i "$2" -map 0:a -f s32le - >"$folder/samples" ;;

@@ -9,11 +9,6 @@ set -eu
 . "$(dirname -- "$0")/program.sh"
 file=$folder/f.wav
 
-wrong() {
-    echo "WRONG $*"
-    exit 1
-}
-
 # ROOM COMMAND [ITEM]: a run in which no file may pass ROOM blocks (of 512 or 1,024 bytes, as the shell counts them)
 answer() {
     status=0

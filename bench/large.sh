@@ -9,11 +9,6 @@ set -eu
 . "$(dirname -- "$0")/program.sh"
 file=$folder/f.wav
 
-wrong() {
-    echo "WRONG $*"
-    exit 1
-}
-
 # The parts of the head; sizes are little-endian. ds64 has riffSize 5,000,001,120, dataSize 5,000,000,000, sampleCount
 # 2,500,000,000 and no rows.
 start() {

@@ -11,11 +11,6 @@ plain=$folder/plain
 cc -O2 -o "$plain" "$top/bench/plain.c"
 cd "$folder"
 
-wrong() {
-    echo "WRONG $*"
-    exit 1
-}
-
 # NAME COMMAND..: runs the command; its seconds and KiB go to the list NAME, what it prints to `printed`
 timed() {
     list=$1
