@@ -1,6 +1,6 @@
 # Read by the scripts of this folder, as `. program.sh FOLDER`: sets `program` to the path of the built editor, and `folder` to a new
-# folder in FOLDER (else beside this clone), which goes when the script ends; `wrong` says what is wrong and ends it. METAEDIT names a program; else the script `metaedit`
-# builds it where that is needed. Without words the editor refuses and touches no file.
+# folder in FOLDER (else beside this clone), which goes when the script ends; `wrong` says what is wrong and ends it. METAEDIT names
+# a program; else the script `metaedit` builds it where that is needed. Without words the editor refuses and touches no file.
 top=$(CDPATH='' cd -- "$(dirname -- "$0")/.." && pwd)
 if [ -n "${METAEDIT:-}" ]; then
     program=$(CDPATH='' cd -- "$(dirname -- "$METAEDIT")" && pwd)/$(basename -- "$METAEDIT")
