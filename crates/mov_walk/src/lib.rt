@@ -5,10 +5,10 @@
 
 mod holder;
 mod reading;
+mod refusals;
 mod tables;
 #[cfg(test)]
 mod tests;
-mod tests_of;
 mod walk;
 
 pub use holder::Holder;

@@ -15,8 +15,8 @@ ghost use Rattle.mov_walk.specs.Walked.{Few, Knows, Walks, file_steps, moov_in, 
 
 use crate::holder::{Holder, opened, parent};
 use crate::reading::{Reading, remember};
+use crate::refusals::{file_why, moov_why};
 use crate::tables::track_why;
-use crate::tests_of::{file_why, moov_why};
 use me_disk::{Depot, DepotFault};
 use part_tree::{ReadFault, Span, Why};
 use qt_atoms::{AtomAt, AtomFault, AtomWalker, Parent};

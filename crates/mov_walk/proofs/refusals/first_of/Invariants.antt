@@ -1,6 +1,6 @@
 use Rattle.std.proofs.Common.{◌≡◌, drop}
 use Rattle.mov_model.specs.Why.{first}
-use Rattle.mov_walk.proofs.tests_of.first_of.Given as goal
+use Rattle.mov_walk.proofs.refusals.first_of.Given as goal
 
 abbrev pub invariant-loop-holds : goal.invariant-loop-holds
 invariant-loop-holds l = first (drop l.holds-index l.tests) ≡ first l.tests

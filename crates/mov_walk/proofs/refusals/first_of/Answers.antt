@@ -3,7 +3,7 @@ use Rattle.part_tree.specs.declared.why.Why.TheVariants.{UnknownKind}
 use Rattle.std.proofs.lemmas.List.{drop_all}
 use Rattle.mov_model.specs.Why.{first}
 use Rattle.mov_walk.proofs.Firsts.{first_at}
-use Rattle.mov_walk.proofs.tests_of.first_of.Goals as goal
+use Rattle.mov_walk.proofs.refusals.first_of.Goals as goal
 
 pub returns-then-holds : goal.returns-then-holds
 returns-then-holds c =
