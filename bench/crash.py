@@ -3,7 +3,7 @@
 and compares the file with the old one and the new one, byte for byte. It ends with status 1 where the file is neither.
 
 It is a test and no proof: some hundred moments of all there are, and a killed process leaves what it wrote in the system's cache,
-so nothing is shown of a loss of power.
+so nothing is shown of a loss of power. (The tests of the crate `power_rows` cut it, over a folder in memory.)
 
   bench/crash.py [RUNS] [FOLDER]     RUNS of each kind, else 100; FOLDER is on the disk to be used, else a new one beside this clone
 METAEDIT names a built program; else the script `metaedit` builds it.

@@ -1,8 +1,8 @@
 #!/bin/sh
 # Shows what `metaedit` does where the disk has no room: the system refuses each write past a limit (`ulimit -f`, with its
-# signal ignored), the editor answers `refused 9 DepotFault 1`, and after `recover` the file is the old one; where the journal was
-# whole before the room ended, `recover` ends the edit once there is room. A test of four cases and no proof; it ends with status 1
-# where an answer or a file is another.
+# signal ignored), the editor answers `refused 9 DepotFault 1` and leaves no work file, and after `recover` the file is the old
+# one; where the journal was whole before the room ended, `recover` ends the edit once there is room. A test of four cases and
+# no proof; it ends with status 1 where an answer or a file is another.
 #   bench/full.sh
 # METAEDIT names a built program; else the script `metaedit` builds it.
 set -eu
@@ -23,6 +23,10 @@ expect() {
     [ "$printed" = "$1" ] && [ "$status" = "$2" ] || wrong "expected: $1, status $2"
 }
 
+no_work() {
+    [ ! -e "$file.met" ] || wrong 'a work file is left'
+}
+
 same() {
     cmp -s "$file" "$1" || wrong "the file isn't $1"
     [ ! -e "$file.mej" ] && [ ! -e "$file.met" ] || wrong 'a journal or a work file is left'
@@ -40,6 +44,7 @@ echo 'a rewrite, room for a part of the new file'
 cp "$folder/old" "$file"
 answer 1024 set Description=Hello
 expect 'refused 9 DepotFault 1' 9
+no_work
 answer unlimited recover
 expect 'recovered nothing' 0
 same "$folder/old"
@@ -47,6 +52,7 @@ same "$folder/old"
 echo 'a rewrite, no room at all'
 answer 0 set Description=Hello
 expect 'refused 9 DepotFault 1' 9
+no_work
 answer unlimited recover
 expect 'recovered nothing' 0
 same "$folder/old"
@@ -54,6 +60,7 @@ same "$folder/old"
 echo 'an edit in place, no room for the journal'
 answer 0 set INAM=Hello
 expect 'refused 9 DepotFault 1' 9
+no_work
 answer unlimited recover
 expect 'recovered nothing' 0
 same "$folder/old"

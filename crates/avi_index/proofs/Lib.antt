@@ -1,6 +1,3 @@
-pub mod Windows
-pub mod Tables
-pub mod Indexes
 pub mod Checks
 pub mod Bases
 pub mod Judged

@@ -1,17 +1,16 @@
 -- What is answered of the entries of idx1: their base, how many are counted, or the first that is refused.
-use Rattle.std.specs.Prelude.{◌≡◌, ℕ, suc, ◌+◌, ◌==◌, nat_lt, List, [], ◌∷◌, Bool, true, false, ◌&&◌, ◌||◌, not, Option, Some, None, Result, if◌then◌else◌}
+use Rattle.std.specs.Prelude.{◌≡◌, ℕ, suc, ◌+◌, ◌==◌, nat_lt, List, [], ◌∷◌, ◌++◌, Bool, true, false, ◌&&◌, ◌||◌, not, Some, None, Result}
 use Rattle.std.specs.declared.result.Result.TheVariants.{Ok, Err}
 use Rattle.part_tree.specs.declared.names.Span.{Span}
-use Rattle.part_tree.specs.declared.why.Why.{Why}
-use Rattle.part_tree.specs.declared.why.Why.TheVariants.{IndexAstray, IndexBase, IndexOverlap}
-use Rattle.avi_model.specs.Index.{Table, Base as Model, from_start, from_movi, base_at, base_of, row_offset, row_length, within, is_head, misses}
-use Rattle.avi_model.specs.Support.{based_by, is_based}
-use Rattle.avi_model.specs.Pieces.{counted}
-use Rattle.avi_model.specs.Map.{count_rows}
-use Rattle.avi_index.specs.declared.base.Base.{Base}
-use Rattle.avi_index.specs.declared.base.Base.TheVariants.{Movi, FileStart}
-use Rattle.avi_index.specs.declared.base.IndexFault.{IndexFault}
-use Rattle.avi_index.specs.declared.base.IndexFault.TheVariants.{NoBase, Astray, Overlap, Depot}
+use Rattle.part_tree.specs.declared.index.IndexFault.{IndexFault}
+use Rattle.part_tree.specs.declared.index.IndexFault.TheVariants.{NoBase, Astray, Overlap, Depot}
+use Rattle.part_tree.specs.Ranges.{within, begins_one, clear_of}
+use Rattle.container_model.specs.Tests.{first}
+use Rattle.container_model.specs.Tables.{count_rows}
+use Rattle.avi_index.specs.Rows.{Base as Model, from_start, from_movi, base_at, base_of, row_offset, row_length}
+use Rattle.avi_index.specs.Found.{based_by, is_based, counted}
+use Rattle.part_tree.specs.declared.table.Base.{Base}
+use Rattle.part_tree.specs.declared.table.Base.TheVariants.{Movi, FileStart}
 
 -- ---- the base
 
@@ -34,49 +33,40 @@ TellsBase based base (Err (Overlap k)) = ⊥
 TellsBase based base (Err Depot) = Unit {0}
 
 -- the base that a row settles
-abbrev pub SettlesBase : List ℕ → List Table → Span → List ℕ → Result Base IndexFault → Type 0
-SettlesBase b ts movi r result = TellsBase (based_by b ts movi r (nat_lt (row_offset r) movi.at)) (told_base movi.at (base_at (nat_lt (row_offset r) movi.at))) result
+abbrev pub SettlesBase : List ℕ → List Span → Span → List ℕ → Result Base IndexFault → Type 0
+SettlesBase b ss movi r result = TellsBase (based_by b ss movi r (nat_lt (row_offset r) movi.at)) (told_base movi.at (base_at (nat_lt (row_offset r) movi.at))) result
 
 -- the base of the rows of a table
-abbrev pub FindsBase : List ℕ → List Table → Span → List (List ℕ) → Result Base IndexFault → Type 0
-FindsBase b ts movi rs result = TellsBase (is_based b ts movi rs) (told_base movi.at (base_of movi.at rs)) result
+abbrev pub FindsBase : List ℕ → List Span → Span → List (List ℕ) → Result Base IndexFault → Type 0
+FindsBase b ss movi rs result = TellsBase (is_based b ss movi rs) (told_base movi.at (base_of movi.at rs)) result
 
 -- ---- the entries, from 0
 
--- the fault of an entry: it doesn't lie in movi, or it has bytes in an index chunk
-abbrev pub row_fault : Model → Span → List Table → ℕ → List ℕ → Option IndexFault
-row_fault from_movi movi ts k r = None
-row_fault from_start movi ts k r =
-    if not (row_length r == 0) && not (within movi (row_offset r) (8 + row_length r)) then Some (Astray k)
-    else (if not (row_length r == 0) && not (is_head ts (row_offset r) || misses ts (row_offset r + 8) (row_length r)) then Some (Overlap k) else None)
+-- the tests of an entry: it doesn't lie in movi, or it has bytes in an index chunk
+abbrev pub row_tests : Span → List Span → ℕ → List ℕ → List (Bool × IndexFault)
+row_tests movi ss k r =
+    (not (row_length r == 0) && not (within movi (row_offset r) (8 + row_length r)), Astray k)
+    ∷ ((not (row_length r == 0) && not (begins_one ss (row_offset r) || clear_of ss (row_offset r + 8) (row_length r)), Overlap k) ∷ [])
 
--- the first of two faults
-abbrev pub or_else : Option IndexFault → Option IndexFault → Option IndexFault
-or_else None b = b
-or_else (Some f) b = Some f
+-- the tests of the entries from a number on
+abbrev pub rows_tests : Span → List Span → ℕ → List (List ℕ) → List (Bool × IndexFault)
+rows_tests movi ss k [] = []
+rows_tests movi ss k (r ∷ rs) = row_tests movi ss k r ++ rows_tests movi ss (suc k) rs
 
--- the first fault of the entries from a number on
-abbrev pub rows_fault : Model → Span → List Table → ℕ → List (List ℕ) → Option IndexFault
-rows_fault base movi ts k [] = None
-rows_fault base movi ts k (r ∷ rs) = or_else (row_fault base movi ts k r) (rows_fault base movi ts (suc k) rs)
-
--- a file that is refused for such a fault of the chunk at a place
-abbrev pub refused : ℕ → Option IndexFault → Option Why
-refused at None = None
-refused at (Some NoBase) = Some IndexBase
-refused at (Some (Astray k)) = Some (IndexAstray at k)
-refused at (Some (Overlap k)) = Some (IndexOverlap at)
-refused at (Some Depot) = None
+-- only entries that count from the start of the file are tested
+abbrev pub old_tests : Model → Span → List Span → ℕ → List (List ℕ) → List (Bool × IndexFault)
+old_tests from_movi movi ss k rs = []
+old_tests from_start movi ss k rs = rows_tests movi ss k rs
 
 -- what is answered of one entry: whether it is counted
-abbrev pub JudgesRow : Model → Span → List Table → ℕ → List ℕ → Result Bool IndexFault → Type 0
-JudgesRow base movi ts k r (Ok counts) = (row_fault base movi ts k r ≡ None) × (counts ≡ counted base movi ts r)
-JudgesRow base movi ts k r (Err fault) = row_fault base movi ts k r ≡ Some fault
+abbrev pub JudgesRow : Model → Span → List Span → ℕ → List ℕ → Result Bool IndexFault → Type 0
+JudgesRow base movi ss k r (Ok counts) = (first (old_tests base movi ss k (r ∷ [])) ≡ None) × (counts ≡ counted base movi ss r)
+JudgesRow base movi ss k r (Err fault) = first (old_tests base movi ss k (r ∷ [])) ≡ Some fault
 
 -- what is answered of a table: how many entries are counted, or the first fault
-abbrev pub JudgesRows : Model → Span → List Table → List (List ℕ) → Result ℕ IndexFault → Type 0
-JudgesRows base movi ts rs (Ok n) = (rows_fault base movi ts 0 rs ≡ None) × (n ≡ count_rows (counted base movi ts) rs)
-JudgesRows base movi ts rs (Err NoBase) = ⊥
-JudgesRows base movi ts rs (Err (Astray k)) = rows_fault base movi ts 0 rs ≡ Some (Astray k)
-JudgesRows base movi ts rs (Err (Overlap k)) = rows_fault base movi ts 0 rs ≡ Some (Overlap k)
-JudgesRows base movi ts rs (Err Depot) = Unit {0}
+abbrev pub JudgesRows : Model → Span → List Span → List (List ℕ) → Result ℕ IndexFault → Type 0
+JudgesRows base movi ss rs (Ok n) = (first (old_tests base movi ss 0 rs) ≡ None) × (n ≡ count_rows (counted base movi ss) rs)
+JudgesRows base movi ss rs (Err NoBase) = ⊥
+JudgesRows base movi ss rs (Err (Astray k)) = first (old_tests base movi ss 0 rs) ≡ Some (Astray k)
+JudgesRows base movi ss rs (Err (Overlap k)) = first (old_tests base movi ss 0 rs) ≡ Some (Overlap k)
+JudgesRows base movi ss rs (Err Depot) = Unit {0}

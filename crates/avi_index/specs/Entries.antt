@@ -1,7 +1,7 @@
 -- One entry of idx1 (AVI RIFF File Reference, AVIOLDINDEX).
 use Rattle.std.specs.Prelude.{◌≡◌, ◌<◌, ◌≤◌, ℕ, ◌+◌, ◌*◌, List, length, Option, Some, None}
 use Rattle.container_model.specs.Written.{slice}
-use Rattle.avi_model.specs.Index.{row_id, row_flags, row_offset, row_length}
+use Rattle.avi_index.specs.Rows.{row_id, row_flags, row_offset, row_length}
 use Rattle.avi_index.specs.declared.entry.IdxEntry.{IdxEntry}
 
 -- the bytes of an entry by its number

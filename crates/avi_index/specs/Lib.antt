@@ -1,4 +1,4 @@
-pub mod Windows
-pub mod Spans
+pub mod Rows
+pub mod Found
 pub mod Entries
 pub mod Checks

@@ -3,40 +3,16 @@ ghost use Rattle.std.specs.Prelude.{◌≡◌, ◌+◌, ◌<◌, ◌≤◌, ◌^
 ghost use Rattle.me_disk.specs.Causes.{Rose};
 ghost use Rattle.me_disk.specs.Holds.{Holds, Inside};
 ghost use Rattle.me_disk.specs.Steps.{HasCause, ReadsOnly};
+ghost use Rattle.part_tree.specs.Ranges.{Ascends};
 ghost use Rattle.container_model.specs.Written.{slice};
-ghost use Rattle.avi_model.specs.Index.{Table, old_rows, row_id, decides};
-ghost use Rattle.avi_model.specs.Map.{table_span};
-ghost use Rattle.avi_model.specs.Support.{stands_at as is_named_at};
+ghost use Rattle.avi_index.specs.Rows.{decides, old_rows, row_id};
+ghost use Rattle.avi_index.specs.Found.{stands_at as is_named_at};
 ghost use Rattle.avi_index.specs.Entries.{IsEntry};
 ghost use Rattle.avi_index.specs.Checks.{FindsBase, SettlesBase};
 
 use crate::entry::{IdxEntry, read_entry};
-use crate::spans::{is_clear, is_head, lies_in};
-use crate::window::Window;
-use me_disk::{Depot, DepotFault, Slot};
-use part_tree::{FourCc, Span};
-
-/// What the offsets of `idx1` count from.
-#[derive(Clone, Copy, Debug, PartialEq, Eq)]
-pub enum Base {
-    /// The word `movi` of the first list of that type, which stands at this place.
-    Movi(u64),
-    /// The start of the file.
-    FileStart,
-}
-
-/// Why the entries of an index are refused, with the number of the first such entry, from 0.
-#[derive(Clone, Copy, Debug, PartialEq, Eq)]
-pub enum IndexFault {
-    /// The entry that decides stands where neither base says.
-    NoBase,
-    /// An entry doesn't lie inside the essence.
-    Astray { entry: u64 },
-    /// An entry has bytes in an index chunk.
-    Overlap { entry: u64 },
-    /// The depot failed.
-    Depot,
-}
+use me_disk::{Depot, DepotFault, Slot, TableWindow};
+use part_tree::{Base, FourCc, IndexFault, Span, is_clear, is_head, lies_in};
 
 // Whether an entry has bytes and is no list.
 fn does_decide(entry: &IdxEntry) -> bool
@@ -52,9 +28,10 @@ fn stands_at<D: Depot>(
     place: u64,
     indexes: &[Span],
 ) -> Result<bool, DepotFault>
+    requires indexes_ascend { Ascends 0 indexes.now }
     requires inside { Inside (place + 4) (D.disk depot.old) }
     requires small { place + 4 < 2 ^ 63 }
-    ensures stands { (b row : List ℕ) (ts : List Table) → Holds (D.disk depot.old) b → map table_span ts ≡ indexes.now → id.0 ≡ row_id row → IfOk result (λ stands. stands ≡ is_named_at b ts row place) }
+    ensures stands { (b row : List ℕ) → Holds (D.disk depot.old) b → id.0 ≡ row_id row → IfOk result (λ stands. stands ≡ is_named_at b indexes.now row place) }
     ensures reads { ReadsOnly (D.disk depot.old) (D.disk depot.new) }
     ensures cause { HasCause (D.disk depot.old) (D.disk depot.new) result }
 {
@@ -74,11 +51,12 @@ fn settle<D: Depot>(
     len: u64,
     indexes: &[Span],
 ) -> Result<Base, IndexFault>
+    requires indexes_ascend { Ascends 0 indexes.now }
     requires whole { (b : List ℕ) → Holds (D.disk depot.old) b → len ≡ length b }
     requires few { len < 2 ^ 63 }
     requires inside { Inside (movi.at + movi.len) (D.disk depot.old) }
     requires small { movi.at + movi.len < 2 ^ 63 }
-    ensures base { (b row : List ℕ) (ts : List Table) → Holds (D.disk depot.old) b → map table_span ts ≡ indexes.now → IsEntry row entry.now → SettlesBase b ts movi row result }
+    ensures base { (b row : List ℕ) → Holds (D.disk depot.old) b → IsEntry row entry.now → SettlesBase b indexes.now movi row result }
     ensures reads { ReadsOnly (D.disk depot.old) (D.disk depot.new) }
     ensures cause { result ≡ Err IndexFault.Depot → Rose (D.disk depot.old).faults (D.disk depot.new).faults }
 {
@@ -106,18 +84,19 @@ fn settle<D: Depot>(
 /// What the offsets of a table count from, as the first entry that has bytes and is no list says: `movi` where its offset is
 /// below that place, else the start of the file. `NoBase` exactly where its identifier doesn't stand there, or stands inside
 /// an index chunk. `idx` is the table, `movi` the body of the first `LIST movi` from its word on, and `indexes` are the bodies
-/// of the index chunks. It takes no memory.
+/// of the index chunks by place. It takes no memory.
 pub fn entry_base<D: Depot>(
     depot: &mut D,
     idx: Span,
     movi: Span,
     indexes: &[Span],
 ) -> Result<Base, IndexFault>
+    requires indexes_ascend { Ascends 0 indexes.now }
     requires inside { Inside (idx.at + idx.len) (D.disk depot.old) }
     requires small { idx.at + idx.len < 2 ^ 63 }
     requires movi { Inside (movi.at + movi.len) (D.disk depot.old) }
     requires movi_small { movi.at + movi.len < 2 ^ 63 }
-    ensures base { (b : List ℕ) (ts : List Table) → Holds (D.disk depot.old) b → map table_span ts ≡ indexes.now → FindsBase b ts movi (old_rows (slice b idx.at idx.len)) result }
+    ensures base { (b : List ℕ) → Holds (D.disk depot.old) b → FindsBase b indexes.now movi (old_rows (slice b idx.at idx.len)) result }
     ensures reads { ReadsOnly (D.disk depot.old) (D.disk depot.new) }
     ensures cause { result ≡ Err IndexFault.Depot → Rose (D.disk depot.old).faults (D.disk depot.new).faults }
 {
@@ -125,7 +104,7 @@ pub fn entry_base<D: Depot>(
         Err(_) => return Err(IndexFault::Depot),
         Ok(len) => len,
     };
-    let mut window = Window::new();
+    let mut window = TableWindow::new();
     'entries: for k in 0..idx.len / 16 {
         let entry = match read_entry(&mut window, depot, idx, k) {
             Err(_) => return Err(IndexFault::Depot),

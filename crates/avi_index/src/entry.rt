@@ -4,10 +4,9 @@ ghost use Rattle.me_disk.specs.Holds.{Holds, Inside};
 ghost use Rattle.me_disk.specs.Steps.{HasCause, ReadsOnly};
 ghost use Rattle.container_model.specs.Written.{slice};
 ghost use Rattle.avi_index.specs.Entries.{IsEntry, ReadsEntry, row_at};
-ghost use Rattle.avi_index.specs.Windows.{IsWindow};
+ghost use Rattle.me_disk.specs.Windows.{IsWindow};
 
-use crate::window::Window;
-use me_disk::{Depot, DepotFault};
+use me_disk::{Depot, DepotFault, TableWindow};
 use part_tree::{FourCc, Span};
 
 /// An entry: the identifier of a chunk, its flags (1 marks a list, 16 a key frame), its offset and its length in bytes.
@@ -45,7 +44,7 @@ pub fn entry_at(bytes: &[u8], k: usize) -> Option<IdxEntry>
 
 // The entry of this number of a table in a file.
 pub fn read_entry<D: Depot>(
-    window: &mut Window,
+    window: &mut TableWindow,
     depot: &mut D,
     table: Span,
     k: u64,

@@ -1,7 +1,7 @@
 // Worked tables.
-use crate::{Base, IdxEntry, IndexFault, check_idx1, entry_at, entry_base};
+use crate::{IdxEntry, check_idx1, entry_at, entry_base};
 use me_disk::{Run, SparseDepot};
-use part_tree::{FourCc, Span};
+use part_tree::{Base, FourCc, IndexFault, Span};
 use std::alloc::Global;
 use std::test::Fail;
 

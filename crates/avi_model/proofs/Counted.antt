@@ -7,9 +7,13 @@ use Rattle.container_model.specs.Stood.{Stood, only}
 use Rattle.container_model.proofs.Codec.{IsBytes}
 use Rattle.part_tree.specs.declared.names.Span.{Span}
 use Rattle.avi_model.specs.Avi.{avi_of, kids, others_at, is_movi, body_span, first_span, first_movi}
-use Rattle.avi_model.specs.Index.{Table, is_super, entry_offset, entry_length, entry_second, has_second, named_by, streams, indexes, within}
-use Rattle.avi_model.specs.Support.{Supported, SoundIndex, is_index_kind, is_standard_kind, movis, second_lies}
-use Rattle.avi_model.proofs.Entries.{standard_index}
+use Rattle.container_model.specs.Tables.{Table}
+use Rattle.opendml_index.specs.Index.{is_super, entry_offset, entry_length, entry_second, has_second}
+use Rattle.avi_model.specs.Index.{named_by, streams, indexes}
+use Rattle.part_tree.specs.Ranges.{within}
+use Rattle.avi_model.specs.Support.{Supported, movis}
+use Rattle.opendml_index.specs.Kinds.{SoundIndex, is_index_kind, is_standard_kind, second_lies}
+use Rattle.opendml_index.proofs.Known.{standard_index}
 use Rattle.avi_model.proofs.Among.{Among, among_all, among_append, among_front}
 use Rattle.avi_model.proofs.Sound.{Holder, named_from, named_place}
 

@@ -11,7 +11,9 @@ use Rattle.carrier_model.specs.Lists.{edit_list_cells}
 use Rattle.carrier_model.specs.Info.{info, info_items, is_padding, riff_fill}
 use Rattle.carrier_model.proofs.Renewed.{renewed_cells, Fixed, LeftAlone, carried_renewed, cuts_shut, laid_shut}
 use Rattle.avi_model.specs.Avi.{Avi, inner, behind}
-use Rattle.avi_model.specs.NewFile.{Items, cell_by, cell_of, is_none, home, ends_file, new_cells, new_children, new_pad, pad_after, pad_cut, edit_cuts}
+use Rattle.avi_model.specs.NewFile.{Items, cell_by, cell_of, home, ends_file, new_cells, new_children, pad_after, edit_cuts}
+use Rattle.carrier_model.specs.RiffForm.{new_pad, pad_cut}
+use Rattle.container_model.specs.Items.{is_nil}
 use Rattle.avi_model.proofs.Read.{renewed_avi, others_place}
 
 -- padding and carriers are left alone
@@ -43,7 +45,7 @@ module _ (ws : List Write) where
   pub new_cells_renewed : (a : Avi) (e : Items) → AllAlone ws 12 a.children → new_cells (renewed_avi ws a) e ≡ renewed_cells ws 12 (new_cells a e)
   new_cells_renewed a e h = ap (edit_list_cells info info_items home e) (cells_renewed 12 a.children h) ∙ carried_renewed info home ws info_items e 12 (map cell_of a.children) (cells_fixed 12 a.children h)
 
-  none_length : (x y : List ℕ) → length x ≡ length y → is_none x ≡ is_none y
+  none_length : (x y : List ℕ) → length x ≡ length y → is_nil x ≡ is_nil y
   none_length [] [] e = refl
   none_length [] (b ∷ y) e = absurd (omega arith)
   none_length (a ∷ x) [] e = absurd (omega arith)
@@ -53,7 +55,7 @@ module _ (ws : List Write) where
   behind_length a = omega (arith, length-append (spell_all (renewed ws (others_place a) a.others)) a.tail, length-append (spell_all a.others) a.tail, renewed_length ws (others_place a) a.others)
 
   ends_same : (a : Avi) → ends_file (renewed_avi ws a) ≡ ends_file a
-  ends_same a = ap (λ (b : Bool). is_none a.left && (is_none a.pad && b)) (none_length (behind (renewed_avi ws a)) (behind a) (behind_length a))
+  ends_same a = ap (λ (b : Bool). is_nil a.left && (is_nil a.pad && b)) (none_length (behind (renewed_avi ws a)) (behind a) (behind_length a))
 
   pad_same : (old new : ℕ) (pad x y : List ℕ) → length x ≡ length y → new_pad old new pad x ≡ new_pad old new pad y
   pad_same old new pad x y e = rw (none_length x y e) refl

@@ -20,7 +20,9 @@ use Rattle.carrier_model.proofs.Info.{made_padded, made_plain, info_rereads, par
 use Rattle.carrier_model.proofs.Lists.{lists_values, lists_end, lists_nodes}
 use Rattle.carrier_model.proofs.Views.{laid_view}
 use Rattle.avi_model.specs.Avi.{Avi, inner, behind as after_form, spell_avi, avi_of}
-use Rattle.avi_model.specs.NewFile.{Items, home as behind_hdrl, cell_by, cell_of, is_none, ends_file, new_cells, new_children, new_pad, laid}
+use Rattle.avi_model.specs.NewFile.{Items, home as behind_hdrl, cell_by, cell_of, ends_file, new_cells, new_children, laid}
+use Rattle.carrier_model.specs.RiffForm.{new_pad}
+use Rattle.container_model.specs.Items.{is_nil}
 use Rattle.avi_model.specs.Edited.{info_values}
 use Rattle.avi_model.specs.Kept.{other_node, nodes_of, kept_in, placed}
 use Rattle.avi_model.proofs.Read.{Readable, avi_again}
@@ -32,7 +34,7 @@ use Rattle.avi_model.proofs.Tables.{was_cells}
 abbrev pub act_of : Items → List Chunk → Act
 act_of e cs = lists_act info info_items behind_hdrl e cs
 
-makes_lists : (P : Chunk → Type 0) → ((body : List ℕ) → P (made (codes "LIST") body)) → (e : Items) (cs : List Chunk) → Makes P (act_of e cs)
+pub makes_lists : (P : Chunk → Type 0) → ((body : List ℕ) → P (made (codes "LIST") body)) → (e : Items) (cs : List Chunk) → Makes P (act_of e cs)
 makes_lists P good e cs = go (has_carrier info cs)
   where
     fresh : (b : Bool) → Makes P (new_carrier info info_items behind_hdrl e b)
@@ -65,7 +67,7 @@ cells_gaps P f (c ∷ cs) = go (is_padding c) refl (cells_gaps P f cs)
     go true e g = (f c e, g)
     go false e g = g
 
-cells_pads : (cs : List Chunk) (left : List ℕ) → Pads cs left → CellPads (map cell_of cs) left
+pub cells_pads : (cs : List Chunk) (left : List ℕ) → Pads cs left → CellPads (map cell_of cs) left
 cells_pads [] left h = tt
 cells_pads (c ∷ cs) left h = go (is_padding c) (cells_pads cs left h.1)
   where
@@ -93,11 +95,11 @@ live_all P (c ∷ cs) h = go (is_padding c) (live_all P cs h.1)
 pad_stands : (old n : ℕ) (pad more : List ℕ) → PadStands riff old pad more → PadStands riff n (new_pad old n pad more) more
 pad_stands old n pad more h = go (eqb old n) refl
   where
-    odd : (t u : Bool) → eqb (n % 2) 1 ≡ t → is_none more ≡ u → PadStands riff n (cond (t && not u) (0 ∷ []) []) more
+    odd : (t u : Bool) → eqb (n % 2) 1 ≡ t → is_nil more ≡ u → PadStands riff n (cond (t && not u) (0 ∷ []) []) more
     odd true false e i = inl (sym (eqb-true (n % 2) 1 e))
     odd true true e i = inr (omega arith, none more i)
       where
-        none : (x : List ℕ) → is_none x ≡ true → x ≡ []
+        none : (x : List ℕ) → is_nil x ≡ true → x ≡ []
         none [] i = refl
         none (y ∷ x) i = absurd cc
     odd false u e i = inl (even e)
@@ -105,9 +107,9 @@ pad_stands old n pad more h = go (eqb old n) refl
         even : eqb (n % 2) 1 ≡ false → 0 ≡ n % 2
         even e = omega (arith, eqb-false (n % 2) 1 e)
 
-    go : (t : Bool) → eqb old n ≡ t → PadStands riff n (cond t pad (cond (eqb (n % 2) 1 && not (is_none more)) (0 ∷ []) [])) more
+    go : (t : Bool) → eqb old n ≡ t → PadStands riff n (cond t pad (cond (eqb (n % 2) 1 && not (is_nil more)) (0 ∷ []) [])) more
     go true e = rw (← eqb-true old n e) h
-    go false e = odd (eqb (n % 2) 1) (is_none more) refl refl
+    go false e = odd (eqb (n % 2) 1) (is_nil more) refl refl
 
 -- ---- what an edit needs of the lists
 

@@ -1,33 +1,41 @@
 -- The law: for every edit that keeps the rules, after which nothing is too large, the new file is the old one edited.
 use Rattle.std.proofs.Common.{◌≡◌, ℕ, suc, ◌^◌, ◌<◌, ◌≤◌, Bool, true, false, cond, List, [], ◌∷◌, ◌++◌, length, map, Option, Some, None, refl, sym, ap, subst, ◌∙◌, arith, inl, inr}
-use Rattle.std.specs.Prelude.{◌||◌, ◌⊎◌, ◌-◌, option_map}
+use Rattle.std.specs.Prelude.{◌||◌, ◌⊎◌, option_map}
 use Rattle.std.specs.Str.{bytes_eq}
-use Rattle.std.specs.List.{filter_map, list_any, AllByRecursion}
+use Rattle.std.specs.List.{filter_map, list_any, cons_option, AllByRecursion}
 use Rattle.me_bytes.specs.Bytes.{IsBytes}
 use Rattle.part_tree.specs.Names.{IsFieldName, info_ids, same_name}
 use Rattle.part_tree.specs.declared.names.FourCc.{FourCc}
 use Rattle.part_tree.specs.declared.field.EditItem.{EditItem}
 use Rattle.part_tree.specs.declared.field.FieldName.{FieldName}
-use Rattle.part_tree.specs.declared.field.FieldName.TheVariants.{Bext, Info, Whole, User}
+use Rattle.part_tree.specs.declared.field.FieldName.TheVariants.{Bext, Info, Whole, User, Key, Stream}
 use Rattle.part_tree.specs.declared.field.RuleSet.TheVariants.{Base}
 use Rattle.part_tree.specs.declared.field.Value.{Value}
 use Rattle.part_tree.specs.declared.names.Kind.TheVariants.{Avi}
 use Rattle.field_model.specs.Broken.{broken}
-use Rattle.field_model.specs.Fields.{plain}
-use Rattle.field_model.specs.Update.{RawItem, effective, raw_item, raw_items, updated_values, is_bext, update}
-use Rattle.container_model.specs.Items.{updated}
+use Rattle.field_model.specs.Fields.{FieldMap, plain}
+use Rattle.field_model.specs.Kind.{NamesFields}
+use Rattle.field_model.specs.Raw.{raw_of}
+use Rattle.field_model.specs.Update.{RawItem, effective, has_effect, raw_change, raw_item, raw_items, updated_values, is_bext, update}
+use Rattle.part_tree.specs.declared.field.Change.{Change}
+use Rattle.part_tree.specs.declared.field.Change.TheVariants.{Set, Remove}
+use Rattle.container_model.specs.Chunk.{riff, Chunk}
+use Rattle.container_model.specs.Items.{updated, values}
+use Rattle.container_model.specs.Tests.{first}
 use Rattle.container_model.specs.Splice.{Cut, splice, Ascend, shift}
 use Rattle.container_model.proofs.Items.{same_true, same_refl}
-use Rattle.carrier_model.specs.Info.{one_of, SetsInfo}
-use Rattle.carrier_model.specs.Lists.{Node, place_lists, place_by, place_nth, part_of, has_list}
+use Rattle.carrier_model.specs.Info.{one_of, info, info_items, SetsInfo}
+use Rattle.carrier_model.specs.Lists.{list_values, Node, place_lists, place_by, place_nth, part_of, has_list}
 use Rattle.avi_model.specs.Avi.{Avi as AviFile, avi_of, inner, spell_avi, hdrls}
-use Rattle.avi_model.specs.Index.{move, writes, renumbered}
+use Rattle.opendml_index.specs.Index.{move}
+use Rattle.avi_model.specs.Index.{writes, renumbered}
 use Rattle.avi_model.specs.Pieces.{pieces}
 use Rattle.avi_model.specs.Support.{Supported, movis}
-use Rattle.avi_model.specs.NewFile.{Items, home, new_children, edit_cuts, laid, with_size, moves, laid_file, edited_file}
+use Rattle.avi_model.specs.NewFile.{Items, home, new_children, edit_cuts, laid, moves, laid_file, edited_file}
+use Rattle.carrier_model.specs.RiffForm.{with_size}
 use Rattle.avi_model.specs.Kept.{Kept, kept, placed}
-use Rattle.avi_model.specs.Edited.{info_values, fields, info_item, info_edit, changes, new_file, Edited}
-use Rattle.avi_model.specs.Large.{too_large_by, too_large, new_avi}
+use Rattle.avi_model.specs.Edited.{info_values, fields, info_item, info_edit, changes}
+use Rattle.avi_model.specs.Large.{new_avi, all_checks}
 use Rattle.avi_model.proofs.Read.{renewed_avi}
 use Rattle.avi_model.proofs.Frames.{same_cuts, ascends, over, again as read_again}
 use Rattle.avi_model.proofs.Spans.{laid_spliced}
@@ -61,7 +69,7 @@ placed_none k = ap (λ (x : List Node). record k { nodes = x }) (go (has_list k.
     go true = place_none (Rattle.carrier_model.specs.Lists.home (Rattle.carrier_model.specs.Lists.node_items k.nodes)) 0 k.nodes
     go false = refl
 
-nothing_done : (o : List ℕ) → Supported o → EditedBy o [] o
+pub nothing_done : (o : List ℕ) → Supported o → EditedBy o [] o
 nothing_done o s = record { supported = s; values = λ id. refl; kept_in_order = sym (placed_none (kept o)); same_pieces = refl }
 
 -- ---- with items
@@ -106,7 +114,7 @@ module _ (o : List ℕ) (bytes : IsBytes o) (s : Supported o) (e : Items) (fit :
     same_pieces = pieces_same o bytes s e small sets fit;
   }
 
-pub items_law : (o : List ℕ) (e : Items) → IsBytes o → Supported o → SetsInfo e → too_large_by o e ≡ None → EditedBy o e (edited_file o e)
+pub items_law : (o : List ℕ) (e : Items) → IsBytes o → Supported o → SetsInfo e → first (all_checks o e) ≡ None → EditedBy o e (edited_file o e)
 items_law o [] bytes s sets none = nothing_done o s
 items_law o (i ∷ e) bytes s sets none = some_done o bytes s (i ∷ e) (fits_of o i e none) sets
 
@@ -132,9 +140,6 @@ values_same (r ∷ rs) id vs n u = go r.name r.value u.0.0 u.0.1 (λ ws. values_
 
     go : (name : FieldName) (value : Option Value) → IsInfoName name → HasNoLanguage value → ((ws : List (List ℕ)) → map plain (updated (info_edit rs) id.0 ws) ≡ updated_values rs (Info id) (map plain ws))
         → map plain (updated (info_item name value ++ info_edit rs) id.0 vs) ≡ updated_values rs (Info id) (cond (same_name name (Info id)) (Rattle.field_model.specs.Update.listed value) (map plain vs))
-    go (Bext field) value u l again = absurd u
-    go (User j) value u l again = absurd u
-    go (Whole j) value u l again = absurd u
     go (Info j) value u l again = typed (one_of info_ids j.0) refl
       where
         apart : one_of info_ids j.0 ≡ false → (t : Bool) → bytes_eq j.0 id.0 ≡ t → t ≡ false
@@ -152,6 +157,7 @@ values_same (r ∷ rs) id vs n u = go r.name r.value u.0.0 u.0.1 (λ ws. values_
             → map plain (updated (cond t (record { name = j.0; value = option_map (λ (v : Value). v.raw) value } ∷ []) [] ++ info_edit rs) id.0 vs) ≡ updated_values rs (Info id) (cond (bytes_eq j.0 id.0) (Rattle.field_model.specs.Update.listed value) (map plain vs))
         typed true e = set value l
         typed false e = again vs ∙ ap (λ (t : Bool). updated_values rs (Info id) (cond t (Rattle.field_model.specs.Update.listed value) (map plain vs))) (sym (apart e (bytes_eq j.0 id.0) refl))
+    go name value u l again = absurd u
 
 -- no other name has values
 other_name : (name : FieldName) → (IsInfoName name → ⊥) → (rs : List RawItem) → AreInfo rs → updated_values rs name [] ≡ []
@@ -160,12 +166,8 @@ other_name name n (r ∷ rs) u = ap (λ (t : Bool). updated_values rs name (cond
   where
     apart : (a b : FieldName) → IsInfoName a → (IsInfoName b → ⊥) → same_name a b ≡ false
     apart (Info a) (Info b) u n = absurd (n tt)
-    apart (Info a) (Bext b) u n = refl
-    apart (Info a) (User b) u n = refl
-    apart (Info a) (Whole b) u n = refl
-    apart (Bext a) b u n = absurd u
-    apart (User a) b u n = absurd u
-    apart (Whole a) b u n = absurd u
+    apart (Info a) b u n = refl
+    apart a b u n = absurd u
 
 no_bext : (rs : List RawItem) → AreInfo rs → list_any (λ (i : RawItem). is_bext i.name) rs ≡ false
 no_bext [] u = refl
@@ -173,45 +175,102 @@ no_bext (r ∷ rs) u = go r.name u.0.0 (no_bext rs u.1)
   where
     go : (name : FieldName) → IsInfoName name → list_any (λ (i : RawItem). is_bext i.name) rs ≡ false → (is_bext name || list_any (λ (i : RawItem). is_bext i.name) rs) ≡ false
     go (Info id) u again = again
-    go (Bext field) u again = absurd u
-    go (User id) u again = absurd u
-    go (Whole id) u again = absurd u
+    go name u again = absurd u
 
-pub edit_law : (o : List ℕ) (e : List EditItem) → IsBytes o → Supported o → broken Avi (fields o) e Base ≡ None → too_large o e ≡ None → Edited o e (new_file o e)
-edit_law o e bytes s rules small =
-    let g = items_give (fields o) e rules in
-    let by = items_law o (changes o e) bytes s g.1 small in
-    record {
-      supported = by.supported;
-      reads_back = read by.values g.0;
-      kept_in_order = by.kept_in_order;
-      same_pieces = by.same_pieces;
-      no_effect = λ none. ap (λ (x : Items). edited_file o x) (ap (λ (items : List EditItem). info_edit (filter_map raw_item items)) none);
-    }
+-- ---- a name that no file has
+
+-- a name that isn't of INFO has no values
+unheld : (id : List ℕ) → one_of info_ids id ≡ false → (cs : List Chunk) → values info_items id cs ≡ []
+unheld id n [] = refl
+unheld id n (c ∷ cs) = ap (λ (x : List (List ℕ)). x ++ values info_items id cs) (one (bytes_eq id c.id) refl) ∙ unheld id n cs
   where
-    read : ((id : List ℕ) → info_values (new_file o e) id ≡ updated (changes o e) id (info_values o id)) → AreInfo (raw_items (fields o) e) → (name : FieldName) → IsFieldName name → fields (new_file o e) name ≡ update (fields o) e name
-    read v g (Info id) n = ap (map plain) (v id.0) ∙ values_same (raw_items (fields o) e) id (info_values o id.0) n g
-    read v g (Whole id) n = sym (other_name (Whole id) (λ x. x) (raw_items (fields o) e) g)
-    read v g (User id) n = sym (other_name (User id) (λ x. x) (raw_items (fields o) e) g)
-    read v g (Bext field) n = sym (Rattle.std.proofs.lemmas.Bool.cond-false (list_any (λ (i : RawItem). is_bext i.name) (raw_items (fields o) e)) _ _ (no_bext (raw_items (fields o) e) g))
+    one : (t : Bool) → bytes_eq id c.id ≡ t → cond t (cond (one_of info_ids c.id) (c.body ∷ []) []) [] ≡ []
+    one false e = refl
+    one true e = ap (λ (u : Bool). cond u (c.body ∷ []) []) (ap (one_of info_ids) (sym (same_true id c.id e)) ∙ n)
+
+unheld_lists : (id : List ℕ) → one_of info_ids id ≡ false → (cs : List Chunk) → list_values info info_items id cs ≡ []
+unheld_lists id n [] = refl
+unheld_lists id n (c ∷ cs) = ap (λ (x : List (List ℕ)). x ++ list_values info info_items id cs) (one (info.is c)) ∙ unheld_lists id n cs
+  where
+    one : (t : Bool) → cond t (values info_items id (info.opening c).chunks) [] ≡ []
+    one true = unheld id n (info.opening c).chunks
+    one false = refl
+
+-- no item of an edit that names fields names it
+abbrev pub NameFields : List RawItem → Type 0
+NameFields rs = AllByRecursion (λ (r : RawItem). IsFieldName r.name) rs
+
+unnamed : (id : FourCc) → one_of info_ids id.0 ≡ false → (rs : List RawItem) → NameFields rs → updated_values rs (Info id) [] ≡ []
+unnamed id n [] h = refl
+unnamed id n (r ∷ rs) h = ap (λ (t : Bool). updated_values rs (Info id) (cond t (Rattle.field_model.specs.Update.listed r.value) [])) (apart r.name h.0) ∙ unnamed id n rs h.1
+  where
+    apart : (name : FieldName) → IsFieldName name → same_name name (Info id) ≡ false
+    apart (Info j) g = go (bytes_eq j.0 id.0) refl
+      where
+        go : (t : Bool) → bytes_eq j.0 id.0 ≡ t → t ≡ false
+        go false e = refl
+        go true e = let yes : one_of info_ids id.0 ≡ true = ap (one_of info_ids) (sym (same_true j.0 id.0 e)) ∙ g in absurd cc
+    apart (Bext field) g = refl
+    apart (User j) g = refl
+    apart (Whole j) g = refl
+    apart (Key j) g = refl
+    apart (Stream j) g = refl
+
+given : (name : FieldName) (change : Change) (rs : List RawItem) → IsFieldName name → NameFields rs → NameFields (cons_option (raw_change name change) rs)
+given name (Set text) rs n h = go (raw_of name text)
+  where
+    go : (raw : Option (List ℕ)) → NameFields (cons_option (option_map (λ (x : List ℕ). Rattle.field_model.specs.Update.written name x) raw) rs)
+    go None = h
+    go (Some raw) = (n, h)
+given (Bext field) Remove rs n h = (n, h)
+given (Info id) Remove rs n h = (n, h)
+given (Whole id) Remove rs n h = (n, h)
+given (User id) Remove rs n h = (n, h)
+given (Key k) Remove rs n h = (n, h)
+given (Stream k) Remove rs n h = (n, h)
+
+named_raw : (f : FieldMap) (e : List EditItem) → NamesFields e → NameFields (raw_items f e)
+named_raw f [] h = tt
+named_raw f (i ∷ e) h = go (has_effect f i) (named_raw f e h.1)
+  where
+    go : (t : Bool) → NameFields (raw_items f e) → NameFields (filter_map raw_item (cond t (i ∷ effective f e) (effective f e)))
+    go true g = given i.name i.change (raw_items f e) h.0 g
+    go false g = g
+
+-- The fields of the new file are the old ones updated.
+pub read_back : (o n : List ℕ) (e : List EditItem) → broken Avi 0 (fields o) e Base ≡ None → ((id : List ℕ) → info_values n id ≡ updated (changes o e) id (info_values o id)) → (name : FieldName) → IsFieldName name ⊎ NamesFields e
+    → fields n name ≡ update (fields o) e name
+read_back o n e rules v (Info id) h = go (one_of info_ids id.0) refl h
+  where
+    g : AreInfo (raw_items (fields o) e)
+    g = (items_give (fields o) e rules).0
+
+    known : one_of info_ids id.0 ≡ true → fields n (Info id) ≡ update (fields o) e (Info id)
+    known i = ap (map plain) (v id.0) ∙ values_same (raw_items (fields o) e) id (info_values o id.0) i g
+
+    go : (t : Bool) → one_of info_ids id.0 ≡ t → IsFieldName (Info id) ⊎ NamesFields e → fields n (Info id) ≡ update (fields o) e (Info id)
+    go true i h = known i
+    go false i (inl k) = known k
+    go false i (inr names) =
+        ap (map plain) (unheld_lists id.0 i (avi_of n).children)
+        ∙ sym (ap (λ (x : List (List ℕ)). updated_values (raw_items (fields o) e) (Info id) (map plain x)) (unheld_lists id.0 i (avi_of o).children) ∙ unnamed id i (raw_items (fields o) e) (named_raw (fields o) e names))
+read_back o n e rules v (Whole id) h = sym (other_name (Whole id) (λ x. x) (raw_items (fields o) e) (items_give (fields o) e rules).0)
+read_back o n e rules v (User id) h = sym (other_name (User id) (λ x. x) (raw_items (fields o) e) (items_give (fields o) e rules).0)
+read_back o n e rules v (Key k) h = sym (other_name (Key k) (λ x. x) (raw_items (fields o) e) (items_give (fields o) e rules).0)
+read_back o n e rules v (Stream k) h = sym (other_name (Stream k) (λ x. x) (raw_items (fields o) e) (items_give (fields o) e rules).0)
+read_back o n e rules v (Bext field) h = sym (Rattle.std.proofs.lemmas.Bool.cond-false (list_any (λ (i : RawItem). is_bext i.name) (raw_items (fields o) e)) _ _ (no_bext (raw_items (fields o) e) (items_give (fields o) e rules).0))
 
 -- The file that is laid is the old one with its numbers moved, then spliced, then its form's size set.
 pub spliced_law : (o : List ℕ) (e : Items) → IsBytes o → Supported o
-    → (laid_file o e ≡ with_size (length (inner (new_avi o e).children (new_avi o e).left)) (splice (renumbered (move (moves o e)) o) (edit_cuts (avi_of o) e))) × Ascend 0 (edit_cuts (avi_of o) e) (length o)
+    → (laid_file o e ≡ with_size riff (length (inner (new_avi o e).children (new_avi o e).left)) (splice (renumbered (move (moves o e)) o) (edit_cuts (avi_of o) e))) × Ascend 0 (edit_cuts (avi_of o) e) (length o)
 unfolding laid_file
 spliced_law o e bytes s =
     let how = move (shift (edit_cuts (avi_of o) e)) in
     let b = renewed_avi (writes how o) (avi_of o) in
     let is : new_avi o e ≡ laid b e = ap (λ (x : AviFile). laid x e) (read_again o bytes s how) in
     let size : length (inner (new_children b e) (avi_of o).left) ≡ length (inner (new_avi o e).children (new_avi o e).left) = ap (λ (x : AviFile). length (inner x.children x.left)) (sym is) in (
-      ap spell_avi is ∙ laid_spliced b e ∙ ap (λ (c : List Cut). with_size (length (inner (new_children b e) (avi_of o).left)) (splice (spell_avi b) c)) (same_cuts o bytes s how e)
-          ∙ ap (λ (y : List ℕ). with_size (length (inner (new_children b e) (avi_of o).left)) (splice y (edit_cuts (avi_of o) e))) (sym (over o bytes s how))
-          ∙ ap (λ (k : ℕ). with_size k (splice (renumbered how o) (edit_cuts (avi_of o) e))) size,
+      ap spell_avi is ∙ laid_spliced b e ∙ ap (λ (c : List Cut). with_size riff (length (inner (new_children b e) (avi_of o).left)) (splice (spell_avi b) c)) (same_cuts o bytes s how e)
+          ∙ ap (λ (y : List ℕ). with_size riff (length (inner (new_children b e) (avi_of o).left)) (splice y (edit_cuts (avi_of o) e))) (sym (over o bytes s how))
+          ∙ ap (λ (k : ℕ). with_size riff k (splice (renumbered how o) (edit_cuts (avi_of o) e))) size,
       ascends o bytes s how e,
     )
-
--- The new file has a length that can be told, and its first form too.
-pub length_law : (o : List ℕ) (e : Items) → too_large_by o e ≡ None → (e ≡ []) ⊎ ((length (edited_file o e) ≤ 2 ^ 63 - 1) × (length (inner (new_avi o e).children (new_avi o e).left) ≤ 2 ^ 32 - 1))
-unfolding laid_file
-length_law o [] none = inl refl
-length_law o (i ∷ e) none = let fit = fits_of o i e none in inr (fit.file_short, fit.form_short)

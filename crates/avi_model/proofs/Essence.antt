@@ -14,7 +14,8 @@ use Rattle.container_model.proofs.Stay.{Stays, stays_part}
 use Rattle.container_model.proofs.Copied.{Moves_as_one}
 use Rattle.container_model.proofs.Stood.{Spelled, stood_spelled, renew_at, carried_to, renewed_stood}
 use Rattle.avi_model.specs.Avi.{Avi, avi_of, inner, form_of, behind, spell_avi, kids, top, others_at, is_movi, essence}
-use Rattle.avi_model.specs.Index.{How, move, writes}
+use Rattle.opendml_index.specs.Index.{How, move}
+use Rattle.avi_model.specs.Index.{writes}
 use Rattle.avi_model.specs.Support.{Supported}
 use Rattle.avi_model.specs.NewFile.{Items, new_children, laid, edit_cuts, laid_file}
 use Rattle.avi_model.proofs.Read.{renewed_avi, others_place}

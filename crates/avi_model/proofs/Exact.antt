@@ -7,15 +7,24 @@ use Rattle.container_model.specs.Chunk.{spell_all}
 use Rattle.container_model.specs.Stood.{stood}
 use Rattle.part_tree.specs.declared.names.Span.{Span}
 use Rattle.avi_model.specs.Avi.{forms, avi_of, hdrls, first_movi}
-use Rattle.avi_model.specs.Index.{Table, is_super, entries, super_places, streams, named, indexes, entry_offset, entry_length, index_base, row_offset, row_length, Base, from_start, from_movi, base, old_rows, olds, within, is_head, misses}
-use Rattle.avi_model.specs.Support.{begins, movis, part_limit, parts, SoundIndex, is_index_kind, is_standard_kind, has_header, has_entries, in_one, movi_spans, size_at, SoundPlace, by_place, Apart, entry_lies, SoundEntry, SoundEntries, is_based, SoundRow, SoundRows, Supported}
+use Rattle.container_model.specs.Tables.{Table, named, size_at}
+use Rattle.opendml_index.specs.Index.{is_super, entries, super_places, entry_offset, entry_length, index_base}
+use Rattle.avi_model.specs.Index.{streams, indexes, base, olds, is_head, misses, spans}
+use Rattle.avi_index.specs.Found.{is_based}
+use Rattle.avi_index.specs.Checks.{rows_tests}
+use Rattle.opendml_index.specs.Checks.{entries_tests}
+use Rattle.avi_index.specs.Rows.{row_offset, row_length, Base, from_start, from_movi, old_rows}
+use Rattle.part_tree.specs.Ranges.{within, in_one}
+use Rattle.avi_model.specs.Support.{begins, movis, part_limit, parts, movi_spans, SoundPlace, by_place, Apart, entry_lies, SoundEntry, SoundEntries, SoundRow, SoundRows, Supported}
+use Rattle.opendml_index.specs.Kinds.{SoundIndex, is_index_kind, is_standard_kind, has_header, has_entries}
 use Rattle.avi_model.specs.Reading.{Step, end_at, form_steps, reading, parts_met}
-use Rattle.avi_model.specs.Why.{Test, steps_tests, list_tests, sound_tests, place_tests, head_of, stream_tests, overlap_tests, entry_tests, standard_tests, base_tests, row_tests, old_tests, tests, why}
+use Rattle.avi_model.specs.Why.{Test, steps_tests, list_tests, sound_tests, place_tests, head_of, stream_tests, overlap_tests, refusals, standard_tests, base_tests, old_tests, tests, why}
 use Rattle.avi_model.proofs.Among.{all_among, among_all}
 use Rattle.avi_model.proofs.Sound.{all_left, all_right}
 use Rattle.avi_model.proofs.Lists.{all_both}
 use Rattle.avi_model.proofs.Sorted.{among_sorted, from_sorted}
-use Rattle.avi_model.proofs.Whys.{AllFalse, first_none, none_first, flat_false, false_flat, not_is, is_not, guarded, guard, StepFine, steps_fine, fine_steps, parts_append, forms_from, from_forms, forms_count}
+use Rattle.container_model.proofs.Tests.{AllFalse, first_none, none_first}
+use Rattle.avi_model.proofs.Whys.{flat_false, false_flat, not_is, is_not, guarded, guard, StepFine, steps_fine, fine_steps, parts_append, forms_from, from_forms, forms_count}
 
 abbrev left_false : (a b : List Test) → AllFalse (a ++ b) → AllFalse a
 left_false a b h = all_left (λ (t : Test). t.0 ≡ false) a b h
@@ -25,6 +34,12 @@ right_false a b h = all_right (λ (t : Test). t.0 ≡ false) a b h
 
 abbrev both_false : (a b : List Test) → AllFalse a → AllFalse b → AllFalse (a ++ b)
 both_false a b h g = all_both (λ (t : Test). t.0 ≡ false) a b h g
+
+abbrev entry_tests : List ℕ → ℕ → ℕ → ℕ → List (List ℕ) → List Test
+entry_tests b at q k rs = refusals at (entries_tests (movi_spans (avi_of b)) (spans (indexes b)) q k rs)
+
+abbrev row_tests : Span → List Table → ℕ → ℕ → List (List ℕ) → List Test
+row_tests movi ts at k rs = refusals at (rows_tests movi (spans ts) k rs)
 
 -- ---- index chunks
 
@@ -174,7 +189,7 @@ module _ (b : List ℕ) where
         few_indexes = ltb-false part_limit (length (indexes b)) many.0;
         indexes_apart = apart_from 0 (by_place (indexes b)) overlap;
         entries_sound = all_among (λ t. is_super t.body ≡ false → SoundEntries b t) (indexes b) (λ t i. standard_from b t (flat_false (standard_tests b) (by_place (indexes b)) standard_ t (among_sorted t (indexes b) i)));
-        based = all_among (λ t. is_based b (indexes b) (first_movi (avi_of b)) (old_rows t.body) ≡ true) (olds b) (λ t i. not_is (is_based b (indexes b) (first_movi (avi_of b)) (old_rows t.body)) (flat_false (base_tests b) (olds b) bases t i).0);
+        based = all_among (λ t. is_based b (spans (indexes b)) (first_movi (avi_of b)) (old_rows t.body) ≡ true) (olds b) (λ t i. not_is (is_based b (spans (indexes b)) (first_movi (avi_of b)) (old_rows t.body)) (flat_false (base_tests b) (olds b) bases t i).0);
         rows_sound = all_among (SoundRows (base b) (first_movi (avi_of b)) (indexes b)) (olds b) (λ t i. old_from (base b) (first_movi (avi_of b)) (indexes b) t (flat_false (old_tests (base b) (first_movi (avi_of b)) (indexes b)) (olds b) olds_ t i));
       }
 
@@ -194,7 +209,7 @@ module _ (b : List ℕ) where
                   (both_false standard_all (base_all ++ old_all)
                   (false_flat (standard_tests b) (by_place (indexes b)) (λ t i. from_standard b t (among_all (λ t. is_super t.body ≡ false → SoundEntries b t) (indexes b) s.entries_sound t (from_sorted t (indexes b) i))))
                   (both_false base_all old_all
-                  (false_flat (base_tests b) (olds b) (λ t i. (is_not (is_based b (indexes b) (first_movi (avi_of b)) (old_rows t.body)) (among_all (λ t. is_based b (indexes b) (first_movi (avi_of b)) (old_rows t.body) ≡ true) (olds b) s.based t i), tt)))
+                  (false_flat (base_tests b) (olds b) (λ t i. (is_not (is_based b (spans (indexes b)) (first_movi (avi_of b)) (old_rows t.body)) (among_all (λ t. is_based b (spans (indexes b)) (first_movi (avi_of b)) (old_rows t.body) ≡ true) (olds b) s.based t i), tt)))
                   (false_flat (old_tests (base b) (first_movi (avi_of b)) (indexes b)) (olds b) (λ t i. from_old (base b) (first_movi (avi_of b)) (indexes b) t (among_all (SoundRows (base b) (first_movi (avi_of b)) (indexes b)) (olds b) s.rows_sound t i))))),
             ))),
       )

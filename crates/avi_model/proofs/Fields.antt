@@ -10,7 +10,8 @@ use Rattle.container_model.specs.Items.{updated}
 use Rattle.carrier_model.specs.Lists.{values_held, list_values}
 use Rattle.carrier_model.specs.Info.{info, info_items, is_type, list_run, SetsInfo}
 use Rattle.avi_model.specs.Avi.{Avi, inner, spell_avi, avi_of}
-use Rattle.avi_model.specs.Index.{move, writes}
+use Rattle.opendml_index.specs.Index.{move}
+use Rattle.avi_model.specs.Index.{writes}
 use Rattle.avi_model.specs.NewFile.{Items, new_children, laid, edit_cuts, laid_file}
 use Rattle.avi_model.specs.Edited.{info_values}
 use Rattle.avi_model.proofs.Read.{renewed_avi, Readable, Frames, written_avi, avi_again}

@@ -1,27 +1,22 @@
 -- What follows where nothing is too large.
-use Rattle.std.proofs.Common.{◌≡◌, ℕ, ◌≤◌, Bool, true, false, cond, ltb, List, [], ◌∷◌, ◌++◌, length, map, Some, None, refl, inl, inr}
+use Rattle.std.proofs.Common.{◌≡◌, ℕ, ◌≤◌, Bool, true, false, cond, ltb, List, [], ◌∷◌, ◌++◌, length, map, None, refl, inl, inr}
 use Rattle.std.specs.Prelude.{◌⊎◌}
 use Rattle.std.specs.List.{flat_map, AllByRecursion}
 use Rattle.std.proofs.lemmas.Bool.{ltb-false}
 use Rattle.container_model.specs.Splice.{shift}
 use Rattle.container_model.specs.Stood.{Stood}
 use Rattle.avi_model.specs.Avi.{avi_of, inner, spell_avi}
-use Rattle.avi_model.specs.Index.{Table, base, indexes, olds}
+use Rattle.container_model.specs.Tables.{Table}
+use Rattle.avi_model.specs.Index.{base, indexes, olds}
 use Rattle.avi_model.specs.Support.{infos, parts, part_limit, list_limit}
-use Rattle.avi_model.specs.NewFile.{Items, edit_cuts}
-use Rattle.avi_model.specs.Large.{Check, first_failing, at_most, limit32, index_checks, old_checks, Placed, put_placed, by_place, tables_placed, new_avi, all_checks, too_large_by}
+use Rattle.avi_model.specs.NewFile.{Items, edit_cuts, laid_file, edited_file}
+use Rattle.avi_model.specs.Large.{Check, at_most, limit32, index_checks, old_checks, Placed, put_placed, by_place, tables_placed, new_avi, all_checks}
+use Rattle.container_model.specs.Tests.{first}
+use Rattle.container_model.proofs.Tests.{AllFalse, first_none}
 use Rattle.avi_model.proofs.Among.{Among, all_among, among_all, among_front, among_back, flat_among, map_among}
 
 abbrev pub Passes : List Check → Type 0
-Passes cs = AllByRecursion (λ c. c.fails ≡ false) cs
-
-pub passes_none : (cs : List Check) → first_failing cs ≡ None → Passes cs
-passes_none [] e = tt
-passes_none (c ∷ cs) e = go c.fails refl e (passes_none cs)
-  where
-    go : (t : Bool) → c.fails ≡ t → cond t (Some c.told) (first_failing cs) ≡ None → (first_failing cs ≡ None → Passes cs) → Passes (c ∷ cs)
-    go true d e again = absurd cc
-    go false d e again = (d, again e)
+Passes cs = AllFalse cs
 
 pub record Fits (o : List ℕ) (e : Items) : Type 0 where
   pub lists_short : AllByRecursion (λ x. length x.chunk.body ≤ list_limit) (infos (new_avi o e))
@@ -48,24 +43,39 @@ among_sorted t (u ∷ us) (inl e) = among_put t u (by_place us) (inl e)
 among_sorted t (u ∷ us) (inr i) = among_put t u (by_place us) (inr (among_sorted t us i))
 
 -- Where nothing is too large, each size and each number fits.
-pub fits_of : (o : List ℕ) (i : Rattle.container_model.specs.Items.Item (List ℕ)) (e : Items) → too_large_by o (i ∷ e) ≡ None → Fits o (i ∷ e)
+pub fits_of : (o : List ℕ) (i : Rattle.container_model.specs.Items.Item (List ℕ)) (e : Items) → first (all_checks o (i ∷ e)) ≡ None → Fits o (i ∷ e)
+unfolding laid_file
 fits_of o i e none =
     let f = shift (edit_cuts (avi_of o) (i ∷ e)) in
     let n = new_avi o (i ∷ e) in
     let lists = map (λ (x : Stood). at_most list_limit (length x.chunk.body)) (infos n) in
     let tables = flat_map (λ (t : Placed). t.checks) (by_place (tables_placed f o)) in
-    let last = at_most 9223372036854775807 (length (spell_avi n)) in
-    let all = passes_none (all_checks o (i ∷ e)) none in
-    let is : (c : Check) → Among c (all_checks o (i ∷ e)) → c.fails ≡ false = λ c j. among_all (λ c. c.fails ≡ false) (all_checks o (i ∷ e)) all c j in
+    let last = at_most 9223372036854775807 (length (edited_file o (i ∷ e))) in
+    let all = first_none (all_checks o (i ∷ e)) none in
+    let is : (c : Check) → Among c (all_checks o (i ∷ e)) → c.0 ≡ false = λ c j. among_all (λ c. c.0 ≡ false) (all_checks o (i ∷ e)) all c j in
     let rest = at_most part_limit (parts n) ∷ (at_most limit32 (length (inner n.children n.left)) ∷ (tables ++ last ∷ [])) in
-    let back : (c : Check) → Among c rest → c.fails ≡ false = λ c j. is c (among_back lists rest c j) in
+    let back : (c : Check) → Among c rest → c.0 ≡ false = λ c j. is c (among_back lists rest c j) in
     let table : (p : Placed) → Among p (tables_placed f o) → Passes p.checks
-    = λ p j. all_among (λ (c : Check). c.fails ≡ false) p.checks (λ c k. back c (inr (inr (among_front tables (last ∷ []) c (flat_among (λ (t : Placed). t.checks) (by_place (tables_placed f o)) p c (among_sorted p (tables_placed f o) j) k))))) in
+    = λ p j. all_among (λ (c : Check). c.0 ≡ false) p.checks (λ c k. back c (inr (inr (among_front tables (last ∷ []) c (flat_among (λ (t : Placed). t.checks) (by_place (tables_placed f o)) p c (among_sorted p (tables_placed f o) j) k))))) in
     record {
       lists_short = all_among (λ x. length x.chunk.body ≤ list_limit) (infos n) (λ x j. ltb-false list_limit (length x.chunk.body) (is (at_most list_limit (length x.chunk.body)) (among_front lists rest _ (map_among (λ (x : Stood). at_most list_limit (length x.chunk.body)) (infos n) x j))));
       few_parts = ltb-false part_limit (parts n) (back (at_most part_limit (parts n)) (inl refl));
       form_short = ltb-false limit32 (length (inner n.children n.left)) (back (at_most limit32 (length (inner n.children n.left))) (inr (inl refl)));
       entries_fit = all_among (λ t. Passes (index_checks f t)) (indexes o) (λ t j. table (record { at = t.at; checks = index_checks f t }) (among_front (map (λ (t : Table). record { at = t.at; checks = index_checks f t }) (indexes o)) (map (λ (t : Table). record { at = t.at; checks = old_checks f (base o) t }) (olds o)) _ (map_among (λ (t : Table). record { at = t.at; checks = index_checks f t }) (indexes o) t j)));
       rows_fit = all_among (λ t. Passes (old_checks f (base o) t)) (olds o) (λ t j. table (record { at = t.at; checks = old_checks f (base o) t }) (among_back (map (λ (t : Table). record { at = t.at; checks = index_checks f t }) (indexes o)) (map (λ (t : Table). record { at = t.at; checks = old_checks f (base o) t }) (olds o)) _ (map_among (λ (t : Table). record { at = t.at; checks = old_checks f (base o) t }) (olds o) t j)));
-      file_short = ltb-false 9223372036854775807 (length (spell_avi n)) (back last (inr (inr (among_back tables (last ∷ []) last (inl refl)))));
+      file_short = ltb-false 9223372036854775807 (length (edited_file o (i ∷ e))) (back last (inr (inr (among_back tables (last ∷ []) last (inl refl)))));
     }
+
+-- The new file has a length that can be told, and its first form too.
+pub file_fits : (o : List ℕ) (e : Items) → first (all_checks o e) ≡ None → (length (edited_file o e) ≤ 9223372036854775807) × (length (inner (new_avi o e).children (new_avi o e).left) ≤ limit32)
+file_fits o e none =
+    let f = shift (edit_cuts (avi_of o) e) in
+    let n = new_avi o e in
+    let lists = map (λ (x : Stood). at_most list_limit (length x.chunk.body)) (infos n) in
+    let tables = flat_map (λ (t : Placed). t.checks) (by_place (tables_placed f o)) in
+    let last = at_most 9223372036854775807 (length (edited_file o e)) in
+    let all = first_none (all_checks o e) none in
+    let is : (c : Check) → Among c (all_checks o e) → c.0 ≡ false = λ c j. among_all (λ c. c.0 ≡ false) (all_checks o e) all c j in
+    let rest = at_most part_limit (parts n) ∷ (at_most limit32 (length (inner n.children n.left)) ∷ (tables ++ last ∷ [])) in
+    let back : (c : Check) → Among c rest → c.0 ≡ false = λ c j. is c (among_back lists rest c j) in
+    (ltb-false 9223372036854775807 (length (edited_file o e)) (back last (inr (inr (among_back tables (last ∷ []) last (inl refl))))), ltb-false limit32 (length (inner n.children n.left)) (back (at_most limit32 (length (inner n.children n.left))) (inr (inl refl))))

@@ -10,7 +10,9 @@ use Rattle.container_model.proofs.Written.{Misses, In, Alone, write_end, slice_c
 use Rattle.container_model.proofs.Stay.{Orders, Stays, stays_part}
 use Rattle.container_model.proofs.Copied.{Moves_as_one, map_append}
 use Rattle.container_model.proofs.Stood.{carried_to}
-use Rattle.avi_model.specs.Index.{Table, table_of, move, is_super, entries, used_place, super_row, index_by, index_body, named, named_in, named_by, super_places, write_index}
+use Rattle.container_model.specs.Tables.{Table, table_of, named}
+use Rattle.opendml_index.specs.Index.{move, is_super, entries, used_place, super_row, index_by, index_body, super_places}
+use Rattle.avi_model.specs.Index.{named_in, named_by, write_index}
 use Rattle.avi_model.proofs.Numbers.{Whole, super_entries, index_length, index_is}
 use Rattle.avi_model.proofs.Walk.{IsRiffHead}
 use Rattle.avi_model.proofs.Pieces.{SuperFits, used_moves}

@@ -23,17 +23,17 @@ le32_small b h = omega (arith, h 0, h 1, h 2, h 3)
 -- ---- one form
 
 -- a header that is read
-record FormHead (s : Bool) (b : List ℕ) (form : Form) (id : List ℕ) (n : ℕ) (after : List ℕ) (next : Bool) : Type 0 where
-  form_is : form ≡ riff
-  id_is : id ≡ codes "RIFF"
-  number : n ≡ from_le_bytes w32 (take 4 (drop 4 b))
-  id_there : id ≡ take 4 b
-  after_is : after ≡ drop 8 b
-  type_is : take 4 after ≡ form_type s
-  next_is : next ≡ false
-  long : 12 ≤ length b
+pub record FormHead (s : Bool) (b : List ℕ) (form : Form) (id : List ℕ) (n : ℕ) (after : List ℕ) (next : Bool) : Type 0 where
+  pub form_is : form ≡ riff
+  pub id_is : id ≡ codes "RIFF"
+  pub number : n ≡ from_le_bytes w32 (take 4 (drop 4 b))
+  pub id_there : id ≡ take 4 b
+  pub after_is : after ≡ drop 8 b
+  pub type_is : take 4 after ≡ form_type s
+  pub next_is : next ≡ false
+  pub long : 12 ≤ length b
 
-form_head : (s next : Bool) (b id after : List ℕ) (form : Form) (n : ℕ) → avi_front s b ≡ full_header form id n after next → FormHead s b form id n after next
+pub form_head : (s next : Bool) (b id after : List ℕ) (form : Form) (n : ℕ) → avi_front s b ≡ full_header form id n after next → FormHead s b form id n after next
 form_head s next b id after form n = go (leb 12 (length b) && (bytes_eq (take 4 b) (codes "RIFF") && bytes_eq (take 4 (drop 8 b)) (form_type s))) refl
   where
     go : (t : Bool) → (leb 12 (length b) && (bytes_eq (take 4 b) (codes "RIFF") && bytes_eq (take 4 (drop 8 b)) (form_type s))) ≡ t → avi_by b t ≡ full_header form id n after next → FormHead s b form id n after next

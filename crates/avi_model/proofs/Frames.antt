@@ -12,7 +12,8 @@ use Rattle.container_model.proofs.Codec.{IsBytes}
 use Rattle.container_model.proofs.Written.{Misses, renew, written_clear, All-of}
 use Rattle.carrier_model.specs.Info.{own_size, is_padding, is_type}
 use Rattle.avi_model.specs.Avi.{Avi, avi_of, form_of, behind, spell_avi, has_id, top, is_movi}
-use Rattle.avi_model.specs.Index.{How, writes}
+use Rattle.opendml_index.specs.Index.{How}
+use Rattle.avi_model.specs.Index.{writes}
 use Rattle.avi_model.specs.Support.{Supported}
 use Rattle.avi_model.specs.NewFile.{Items, edit_cuts}
 use Rattle.avi_model.proofs.Types.{type_is, padding_id, and_none}

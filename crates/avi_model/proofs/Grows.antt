@@ -4,14 +4,14 @@ use Rattle.std.specs.Prelude.{◌⊎◌, ◌&&◌, ◌||◌, not, codes}
 use Rattle.std.proofs.lemmas.Bool.{lt-leb, le-leb, lt-ltb, leb-true, eqb-false, cases_lt}
 use Rattle.std.proofs.lemmas.List.{length-append, length-drop}
 use Rattle.container_model.specs.Chunk.{Chunk, header_bytes, spell, spell_all}
-use Rattle.container_model.specs.Splice.{Cut, end_of, gained, lost}
+use Rattle.container_model.specs.Splice.{Cut, end_of, gained, lost, shift}
 use Rattle.container_model.specs.Units.{Cell, kept, gap, edited, lacks_pad, Piece, copied, replaced, Slot, shut, begun, is_empty, closed, kept_next, units, old_bytes, unit_bytes, Fill, cut_of, cuts}
 use Rattle.container_model.proofs.Splice.{before_lost, behind_lost}
 use Rattle.container_model.proofs.Places.{Before, old_length}
 use Rattle.container_model.proofs.Copied.{Later}
-use Rattle.container_model.specs.Splice.{shift}
 use Rattle.avi_model.specs.Avi.{Avi, inner}
-use Rattle.avi_model.specs.NewFile.{Items, ends_file, new_cells, pad_after, pad_cut, edit_cuts}
+use Rattle.avi_model.specs.NewFile.{Items, ends_file, new_cells, pad_after, edit_cuts}
+use Rattle.carrier_model.specs.RiffForm.{pad_cut}
 use Rattle.avi_model.proofs.Tables.{pad_later}
 use Rattle.carrier_model.specs.Info.{made, room, fill_by, riff_fill}
 

@@ -1,9 +1,9 @@
 -- Where an edit has room, every table stands as it was, and the patches laid over the old file at the new length make the new one.
-use Rattle.std.proofs.Common.{◌≡◌, ℕ, ◌+◌, ◌-◌, ◌^◌, ◌<◌, ◌≤◌, Bool, true, false, eqb, ltb, List, [], ◌∷◌, length, take, Option, Some, None, refl, sym, ap, subst, ◌∙◌, arith, inl, inr}
+use Rattle.std.proofs.Common.{◌≡◌, ℕ, ◌+◌, ◌-◌, ◌^◌, ◌<◌, ◌≤◌, Bool, true, false, eqb, ltb, List, [], ◌∷◌, length, Option, Some, None, refl, sym, ap, subst, ◌∙◌, arith, inl, inr}
 use Rattle.std.specs.Prelude.{◌⊎◌, ◌&&◌, codes, nat_le}
 use Rattle.std.specs.Int.{w32, to_le_bytes}
 use Rattle.std.specs.List.{flat_map, AllByRecursion}
-use Rattle.std.proofs.lemmas.Bool.{and_parts, eqb-false, ltb-true, leb-true}
+use Rattle.std.proofs.lemmas.Bool.{and_parts, eqb-false, ltb-true}
 use Rattle.std.proofs.lemmas.List.{take_all}
 use Rattle.part_tree.specs.declared.field.EditItem.{EditItem}
 use Rattle.container_model.specs.Splice.{shift}
@@ -11,25 +11,41 @@ use Rattle.container_model.specs.Stood.{Stood, only}
 use Rattle.container_model.specs.Units.{shut, units}
 use Rattle.container_model.specs.Written.{Write}
 use Rattle.container_model.proofs.Codec.{IsBytes}
-use Rattle.part_tree.specs.Patches.{InOrder, Touches, all_bytes, patched}
+use Rattle.part_tree.specs.declared.plan.Patch.{Patch}
+use Rattle.part_tree.specs.Patches.{all_bytes}
+use Rattle.part_tree.specs.Patches.{laid as over}
+use Rattle.carrier_model.specs.RiffForm.{form_room}
+use Rattle.carrier_model.proofs.RiffForm.{sound_in_place}
+use Rattle.avi_model.proofs.Spans.{is_riff}
+use Rattle.avi_model.proofs.Tables.{was_new}
 use Rattle.carrier_model.specs.Room.{units_fit}
-use Rattle.carrier_model.specs.Order.{SoundPatches}
+use Rattle.part_tree.specs.Order.{SoundPatches}
 use Rattle.avi_model.specs.Avi.{Avi, avi_of, inner, form_of, behind, spell_avi, has_id, kids, top, others_at, hdrls, strls, stream_indexes, old_indexes, is_movi, essence}
-use Rattle.avi_model.specs.Index.{Table, table_of, How, move, writes, renumbered, is_super, entries, super_place, index_base, entry_offset, entry_length, entry_second, has_second, first_counted, standard_by, index_by, index_body, named, streams, indexes, Base, from_start, base, old_rows, old_body, olds, row_offset, row_length, write_index, write_old}
-use Rattle.avi_model.specs.Support.{Supported, SoundIndex, SoundEntries, SoundEntry, is_index_kind, in_one, movi_spans, size_at, second_lies, SoundRows}
-use Rattle.avi_model.specs.NewFile.{Items, ends_file, new_cells, laid, edit_cuts, laid_file, edited_file}
+use Rattle.container_model.specs.Tables.{Table, table_of, named, size_at}
+use Rattle.opendml_index.specs.Index.{How, move, is_super, entries, super_place, index_base, entry_offset, entry_length, entry_second, has_second, first_counted, standard_by, index_by, index_body}
+use Rattle.avi_model.specs.Index.{writes, renumbered, streams, indexes, base, olds, write_index, write_old}
+use Rattle.avi_index.specs.Rows.{Base, from_start, old_rows, old_body, row_offset, row_length}
+use Rattle.avi_model.specs.Support.{Supported, SoundEntries, SoundEntry, movi_spans, SoundRows}
+use Rattle.opendml_index.specs.Kinds.{SoundIndex, is_index_kind, second_lies}
+use Rattle.part_tree.specs.Ranges.{in_one}
+use Rattle.avi_model.specs.NewFile.{Items, riff_of, ends_file, new_cells, laid, edit_cuts, laid_file, edited_file}
 use Rattle.avi_model.specs.Edited.{changes, new_file}
-use Rattle.avi_model.specs.Room.{pieces_of, patches_of, patches_by, patches, Room}
+use Rattle.avi_model.specs.Room.{patches_of, patches_by, patches, Room}
 use Rattle.avi_model.proofs.Numbers.{Whole}
 use Rattle.avi_model.proofs.Walk.{IsRiffHead}
-use Rattle.avi_model.proofs.Entries.{super_kind, standard_kind, super_index, standard_index, entry_long, place_named, first_is}
+use Rattle.opendml_index.proofs.Known.{super_kind, standard_kind, super_index}
+use Rattle.avi_model.proofs.Entries.{entry_long, place_named, first_is}
 use Rattle.avi_model.proofs.Among.{Among, all_among, among_all, among_only, among_first, among_append, among_front, among_flat, among_map}
 use Rattle.avi_model.proofs.Lies.{body_end, kids_heads, kids_inside}
 use Rattle.avi_model.proofs.Levels.{Ended, top_heads, further_whole, others_range}
 use Rattle.avi_model.proofs.Sound.{ended, holder_of, named_sound, named_from, named_place, index_sound, writes_of, Writes, of_index, of_old}
 use Rattle.avi_model.proofs.Stands.{is_file, index_stands, old_stands, table_bytes}
 use Rattle.avi_model.proofs.Same.{AsItStands, stands_written, super_table_same, standard_table_same, old_table_same}
-use Rattle.avi_model.proofs.Still.{place_stays, past_stays, laid_patched, ordered, covered}
+use Rattle.avi_model.proofs.Still.{place_stays, past_stays}
+
+-- patches that make the new file, and are sound
+abbrev pub MadeIn : List ℕ → List ℕ → List Patch → Type 0
+MadeIn o n ps = (over (length n) ps o ≡ n) × SoundPatches (length o) (length n) ps
 
 module _ (o : List ℕ) (bytes : IsBytes o) (s : Supported o) (e : Items) (fits : units_fit (ends_file (avi_of o)) (units shut (new_cells (avi_of o) e)) ≡ true) where
   abbrev a : Avi
@@ -88,7 +104,7 @@ module _ (o : List ℕ) (bytes : IsBytes o) (s : Supported o) (e : Items) (fits 
       long : is_super t.body ≡ false → (r : List ℕ) → Among r (entries t.body) → (length r ≡ 8) ⊎ (length r ≡ 12)
       long e r k = pick (standard_kind t.body (Rattle.avi_model.proofs.Counted.index_kind_of o bytes s t i e)).1
         where
-          pick : (Rattle.avi_model.specs.Index.width t.body ≡ 8) ⊎ (Rattle.avi_model.specs.Index.width t.body ≡ 12) → (length r ≡ 8) ⊎ (length r ≡ 12)
+          pick : (Rattle.opendml_index.specs.Index.width t.body ≡ 8) ⊎ (Rattle.opendml_index.specs.Index.width t.body ≡ 12) → (length r ≡ 8) ⊎ (length r ≡ 12)
           pick (inl h) = inl (entry_long t.body w r k ∙ h)
           pick (inr h) = inr (entry_long t.body w r k ∙ h)
 
@@ -139,7 +155,7 @@ module _ (o : List ℕ) (bytes : IsBytes o) (s : Supported o) (e : Items) (fits 
           absurd cc
       go false e j = standard (first_counted (entries t.body)) refl e
 
-  old_same : (x : Stood) → Among x (old_indexes a) → old_body (move f) (base o) x.chunk.body ≡ x.chunk.body
+  old_same : (x : Stood) → Among x (old_indexes a) → old_body f (base o) x.chunk.body ≡ x.chunk.body
   old_same x i = old_table_same f (base o) x.chunk.body (table_bytes o bytes s (x.at + 8) x.chunk.body (old_stands o bytes s x i)) (λ r j c d. row r j c d (base o) d sound)
     where
       sound : SoundRows (base o) (Rattle.avi_model.specs.Avi.first_movi a) (indexes o) (table_of x)
@@ -150,7 +166,7 @@ module _ (o : List ℕ) (bytes : IsBytes o) (s : Supported o) (e : Items) (fits 
           let rows = subst (λ (b : Base). SoundRows b (Rattle.avi_model.specs.Avi.first_movi a) (indexes o) (table_of x)) e sound in
           let q = among_all (λ r. eqb (row_length r) 0 ≡ false → Rattle.avi_model.specs.Support.SoundRow (Rattle.avi_model.specs.Avi.first_movi a) (indexes o) r) (old_rows x.chunk.body) rows r j c in
           let m = Rattle.avi_model.proofs.Counted.first_holder o bytes s (row_offset r) (8 + row_length r) q.lies in
-          let sixteen = Rattle.avi_model.proofs.Entries.row_length_is 16 (Rattle.avi_model.specs.Index.count16 x.chunk.body) x.chunk.body (Rattle.avi_model.proofs.Pieces.holds_sixteen (Rattle.avi_model.specs.Index.count16 x.chunk.body) x.chunk.body (Rattle.std.proofs.Math.Nat.div-mul-le_self (length x.chunk.body) 16)) r j in
+          let sixteen = Rattle.avi_model.proofs.Entries.row_length_is 16 (Rattle.avi_index.specs.Rows.count16 x.chunk.body) x.chunk.body (Rattle.avi_model.proofs.Pieces.holds_sixteen (Rattle.avi_index.specs.Rows.count16 x.chunk.body) x.chunk.body (Rattle.std.proofs.Math.Nat.div-mul-le_self (length x.chunk.body) 16)) r j in
           (omega (arith, sixteen), in_stays m.movi m.movi_among (row_offset r) m.low (omega (arith, m.high)))
 
   -- Every number stays as it is.
@@ -165,41 +181,27 @@ module _ (o : List ℕ) (bytes : IsBytes o) (s : Supported o) (e : Items) (fits 
   unfolding laid_file
   laid_same = ap (λ (x : List ℕ). spell_avi (laid (avi_of x) e)) numbers_stay
 
-  -- The patches make the new file.
-  pub made : take (length (laid_file o e)) (patched (patches_of (avi_of o) e) o) ≡ laid_file o e
-  made =
-      ap (λ (x : List ℕ). take (length x) (patched (patches_of a e) o)) laid_same ∙ ap (λ (x : List ℕ). take (length (spell_avi (laid a e))) (patched (patches_of a e) x)) (is_file o bytes s)
-      ∙ laid_patched a e fits ∙ sym laid_same
-
-  -- They are in order, and cover what the file gains.
-  pub laid_ordered : InOrder (length (laid_file o e)) 0 (patches_of (avi_of o) e)
-  laid_ordered = subst (λ (x : List ℕ). InOrder (length x) 0 (patches_of a e)) (sym laid_same) (ordered a e fits)
-
-  pub laid_covered : (q : ℕ) → length o ≤ q → q < length (laid_file o e) → Touches q (patches_of (avi_of o) e)
-  laid_covered q low high = covered a e fits q (omega (arith, low, ap length (is_file o bytes s))) (omega (arith, high, ap length laid_same))
+  -- The patches make the new file, and are sound.
+  pub made : form_room (riff_of (avi_of o)) (new_cells (avi_of o) e) ≡ true → MadeIn o (laid_file o e) (patches_of (avi_of o) e)
+  made room =
+      let done = sound_in_place (riff_of a) (new_cells a e) (is_riff a) (was_new a e) refl room in
+      let from_o : MadeIn o (spell_avi (laid a e)) (patches_of a e) = subst (λ (x : List ℕ). MadeIn x (spell_avi (laid a e)) (patches_of a e)) (sym (is_file o bytes s)) done in
+      subst (λ (n : List ℕ). MadeIn o n (patches_of a e)) (sym laid_same) from_o
 
 -- For an edit of fields: no number changes, and its patches make its new file.
 module _ (o : List ℕ) (bytes : IsBytes o) (s : Supported o) (e : List EditItem) (r : Room o e) where
-  room : (units_fit (ends_file (avi_of o)) (pieces_of (avi_of o) (changes o e)) ≡ true) × (nat_le (all_bytes (patches o e)) (2 ^ 24) ≡ true)
-  room = and_parts (units_fit (ends_file (avi_of o)) (pieces_of (avi_of o) (changes o e))) (nat_le (all_bytes (patches o e)) (2 ^ 24)) r
-
-  pub edit_stays : renumbered (move (shift (edit_cuts (avi_of o) (changes o e)))) o ≡ o
-  edit_stays = numbers_stay o bytes s (changes o e) room.0
+  room_of : (x : Items) → changes o e ≡ x → form_room (riff_of (avi_of o)) (new_cells (avi_of o) x) ≡ true
+  room_of x d = subst (λ (x : Items). form_room (riff_of (avi_of o)) (new_cells (avi_of o) x) ≡ true) d r
 
   fit_of : (x : Items) → changes o e ≡ x → units_fit (ends_file (avi_of o)) (units shut (new_cells (avi_of o) x)) ≡ true
-  fit_of x d = subst (λ (x : Items). units_fit (ends_file (avi_of o)) (units shut (new_cells (avi_of o) x)) ≡ true) d room.0
+  fit_of x d = (and_parts (units_fit (ends_file (avi_of o)) (units shut (new_cells (avi_of o) x))) (nat_le (all_bytes (patches_of (avi_of o) x)) (2 ^ 24)) (room_of x d)).0
 
-  pub patches_make : new_file o e ≡ take (length (new_file o e)) (patched (patches o e) o)
+  pub edit_stays : renumbered (move (shift (edit_cuts (avi_of o) (changes o e)))) o ≡ o
+  edit_stays = numbers_stay o bytes s (changes o e) (fit_of (changes o e) refl)
+
+  pub patches_make : MadeIn o (new_file o e) (patches o e)
   patches_make = go (changes o e) refl
     where
-      go : (x : Items) → changes o e ≡ x → edited_file o x ≡ take (length (edited_file o x)) (patched (patches_by (avi_of o) x) o)
-      go [] d = sym (take_all (length o) o (omega arith))
-      go (i ∷ t) d = sym (made o bytes s (i ∷ t) (fit_of (i ∷ t) d))
-
-  pub patches_sound : SoundPatches (length o) (length (new_file o e)) (patches o e)
-  patches_sound = record { in_order = (both (changes o e) refl).0; few_bytes = leb-true (all_bytes (patches o e)) (2 ^ 24) room.1; cover = (both (changes o e) refl).1 }
-    where
-      both : (x : Items) → changes o e ≡ x
-          → InOrder (length (edited_file o x)) 0 (patches_by (avi_of o) x) × ((q : ℕ) → length o ≤ q → q < length (edited_file o x) → Touches q (patches_by (avi_of o) x))
-      both [] d = (tt, λ q low high. absurd (omega arith))
-      both (i ∷ t) d = (laid_ordered o bytes s (i ∷ t) (fit_of (i ∷ t) d), laid_covered o bytes s (i ∷ t) (fit_of (i ∷ t) d))
+      go : (x : Items) → changes o e ≡ x → MadeIn o (edited_file o x) (patches_by (avi_of o) x)
+      go [] d = (take_all (length o) o (omega arith), record { in_order = tt; few_bytes = omega arith; cover = λ q low high. absurd (omega (arith, low, high)) })
+      go (i ∷ t) d = made o bytes s (i ∷ t) (fit_of (i ∷ t) d) (room_of (i ∷ t) d)

@@ -4,7 +4,7 @@ use Rattle.std.specs.Prelude.{◌⊎◌, codes}
 use Rattle.std.specs.Int.{w32, to_le_bytes}
 use Rattle.std.specs.List.{AllByRecursion}
 use Rattle.std.proofs.lemmas.List.{length-append, length-take}
-use Rattle.container_model.specs.Chunk.{Chunk, spell}
+use Rattle.container_model.specs.Chunk.{riff, Chunk, spell}
 use Rattle.container_model.specs.Splice.{Cut, splice, shift, Outside}
 use Rattle.container_model.specs.Stood.{Stood, bare, stood, only}
 use Rattle.container_model.specs.Written.{Write, written}
@@ -14,10 +14,14 @@ use Rattle.container_model.proofs.Written.{Misses, write_end, written-append, wr
 use Rattle.container_model.proofs.Copied.{Moves_as_one}
 use Rattle.carrier_model.specs.Info.{is_type, SetsInfo}
 use Rattle.avi_model.specs.Avi.{Avi, avi_of, inner, spell_avi, hdrls, strls, old_indexes}
-use Rattle.avi_model.specs.Index.{Table, table_of, How, move, blank, writes, write_index, write_old, renumbered, is_super, entries, index_body, old_body, index_base, entry_length, has_second, first_counted, base, indexes, olds, Base}
+use Rattle.container_model.specs.Tables.{Table}
+use Rattle.opendml_index.specs.Index.{How, move, blank, is_super, entries, index_body, index_base, first_counted}
+use Rattle.avi_model.specs.Index.{writes, write_index, write_old, renumbered, base, indexes, olds}
+use Rattle.avi_index.specs.Rows.{old_body, Base}
 use Rattle.avi_model.specs.Pieces.{pieces, Pieces}
 use Rattle.avi_model.specs.Support.{ListEnds, infos, Supported}
-use Rattle.avi_model.specs.NewFile.{Items, new_children, laid, edit_cuts, with_size, laid_file}
+use Rattle.avi_model.specs.NewFile.{Items, new_children, laid, edit_cuts, laid_file}
+use Rattle.carrier_model.specs.RiffForm.{with_size}
 use Rattle.avi_model.specs.Edited.{info_values}
 use Rattle.avi_model.specs.Kept.{kept_in, kept, placed}
 use Rattle.avi_model.proofs.Read.{renewed_avi}
@@ -56,7 +60,7 @@ lists_of o s =
     ends_chunks 12 a.children (all_right ListEnds (strls a) (infos a) (all_right ListEnds (hdrls a) (strls a ++ infos a) s.lists_end))
 
 -- writes behind the first eight bytes leave the form's size alone
-size_written : (ws : List Write) (n : ℕ) (b : List ℕ) → 8 ≤ length b → AllByRecursion (λ w. 8 ≤ w.at) ws → written ws 0 (with_size n b) ≡ with_size n (written ws 0 b)
+size_written : (ws : List Write) (n : ℕ) (b : List ℕ) → 8 ≤ length b → AllByRecursion (λ w. 8 ≤ w.at) ws → written ws 0 (with_size riff n b) ≡ with_size riff n (written ws 0 b)
 size_written ws n b long h =
     let four : length (take 4 b) ≡ 4 = omega (arith, length-take 4 b) in
     let num : length (to_le_bytes w32 n) ≡ 4 = refl in
@@ -208,8 +212,8 @@ module _ (o : List ℕ) (bytes : IsBytes o) (s : Supported o) (e : Items) (small
     unfolding pairs
     pairs_range = all_among SameRange (map (λ (t : Table). record { first = write_index (move f) t; second = write_index blank t }) (indexes o) ++ map (λ (t : Table). record { first = write_old (move f) (base o) t; second = write_old blank (base o) t }) (olds o)) one
       where
-        old_length : (how : How) (t : Table) → length (old_body how (base o) t.body) ≡ length t.body
-        old_length how t = Rattle.container_model.proofs.Written.length-map_rows 16 (Rattle.avi_model.specs.Index.old_row how (base o)) (Rattle.avi_model.specs.Index.count16 t.body) t.body (Rattle.avi_model.proofs.Numbers.old_keeps how (base o))
+        old_length : (how : How) (t : Table) → length (old_body how.place (base o) t.body) ≡ length t.body
+        old_length how t = Rattle.container_model.proofs.Written.length-map_rows 16 (Rattle.avi_index.specs.Rows.old_row how.place (base o)) (Rattle.avi_index.specs.Rows.count16 t.body) t.body (Rattle.avi_model.proofs.Numbers.old_keeps how (base o))
 
         one : (p : Pair) → Among p (map (λ (t : Table). record { first = write_index (move f) t; second = write_index blank t }) (indexes o) ++ map (λ (t : Table). record { first = write_old (move f) (base o) t; second = write_old blank (base o) t }) (olds o)) → SameRange p
         one p i = go (among_append (map (λ (t : Table). record { first = write_index (move f) t; second = write_index blank t }) (indexes o)) (map (λ (t : Table). record { first = write_old (move f) (base o) t; second = write_old blank (base o) t }) (olds o)) p i)
@@ -254,17 +258,17 @@ module _ (o : List ℕ) (bytes : IsBytes o) (s : Supported o) (e : Items) (small
         let W = map (moved_write to) zs in
         let k = length (inner (new_children b e) a.left) in
         let x = splice (written ws 0 o) cs in
-        let is : n ≡ with_size k x = new_is o bytes s e small ∙ laid_spliced b e ∙ ap (λ (c : List Cut). with_size k (splice (spell_avi b) c)) (same_cuts o bytes s (move f) e) ∙ ap (λ (y : List ℕ). with_size k (splice y cs)) (sym (over o bytes s (move f))) in
+        let is : n ≡ with_size riff k x = new_is o bytes s e small ∙ laid_spliced b e ∙ ap (λ (c : List Cut). with_size riff k (splice (spell_avi b) c)) (same_cuts o bytes s (move f) e) ∙ ap (λ (y : List ℕ). with_size riff k (splice y cs)) (sym (over o bytes s (move f))) in
         let long : 12 ≤ length n = omega (arith, ap length (new_is o bytes s e small), length-append (spell (Rattle.avi_model.specs.Avi.form_of (laid b e))) (Rattle.avi_model.specs.Avi.behind (laid b e))) in
         let eight : 8 ≤ length x = omega (arith, long, ap length is, length-append (take 4 x) (to_le_bytes w32 k ++ drop 8 x), length-append (to_le_bytes w32 k) (drop 8 x), length-take 4 x, Rattle.std.proofs.lemmas.List.length-drop 8 x) in
         let behind : AllByRecursion (λ w. 8 ≤ w.at) W = all_behind zs in
         let asc = subst (λ (q : ℕ). Rattle.container_model.specs.Splice.Ascend 0 cs q) (sym (length-written ws 0 o)) (ascends o bytes s (move f) e) in
         let both : written zs 0 (written ws 0 o) ≡ written zs 0 o = ap (λ (y : List Write). written y 0 (written ws 0 o)) (sym pairs_second) ∙ ap (λ (y : List Write). written (seconds pairs) 0 (written y 0 o)) (sym pairs_first) ∙ written_both pairs 0 o pairs_range ∙ ap (λ (y : List Write). written y 0 o) pairs_second in
         let size : k ≡ length (inner (new_children z e) a.left) = size_same ws a e (alone o bytes s (move f)) ∙ sym (size_same zs a e (alone o bytes s blank)) in
-        ap (λ (y : List Write). written y 0 n) zeros_are ∙ ap (written W 0) is ∙ size_written W k x eight behind ∙ ap (with_size k) (moved_over (written ws 0 o) cs to zs asc zeros_go)
-        ∙ ap (λ (y : List ℕ). with_size k (splice y cs)) both ∙ ap (λ (q : ℕ). with_size q (splice (written zs 0 o) cs)) size
-        ∙ ap (λ (y : List ℕ). with_size (length (inner (new_children z e) a.left)) (splice y cs)) (over o bytes s blank)
-        ∙ ap (λ (c : List Cut). with_size (length (inner (new_children z e) a.left)) (splice (spell_avi z) c)) (sym (same_cuts o bytes s blank e)) ∙ sym (laid_spliced z e)
+        ap (λ (y : List Write). written y 0 n) zeros_are ∙ ap (written W 0) is ∙ size_written W k x eight behind ∙ ap (with_size riff k) (moved_over (written ws 0 o) cs to zs asc zeros_go)
+        ∙ ap (λ (y : List ℕ). with_size riff k (splice y cs)) both ∙ ap (λ (q : ℕ). with_size riff q (splice (written zs 0 o) cs)) size
+        ∙ ap (λ (y : List ℕ). with_size riff (length (inner (new_children z e) a.left)) (splice y cs)) (over o bytes s blank)
+        ∙ ap (λ (c : List Cut). with_size riff (length (inner (new_children z e) a.left)) (splice (spell_avi z) c)) (sym (same_cuts o bytes s blank e)) ∙ sym (laid_spliced z e)
       where
         all_behind : (vs : List Write) → AllByRecursion (λ w. 8 ≤ w.at) (map (moved_write to) vs)
         all_behind [] = tt

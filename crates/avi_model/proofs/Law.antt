@@ -14,7 +14,10 @@ use Rattle.container_model.proofs.Copied.{Moves_as_one}
 use Rattle.container_model.proofs.Stood.{Spelled, carried_to, renew_at}
 use Rattle.part_tree.specs.declared.names.Span.{Span}
 use Rattle.avi_model.specs.Avi.{Avi, avi_of, spell_avi, inner, first_span, first_movi, top, is_movi, stream_indexes, old_indexes, others_at, kids}
-use Rattle.avi_model.specs.Index.{table_of, move, writes, write_old, old_body, streams, indexes, olds, base, old_rows, count16, old_row}
+use Rattle.container_model.specs.Tables.{table_of}
+use Rattle.opendml_index.specs.Index.{move}
+use Rattle.avi_model.specs.Index.{writes, write_old, streams, indexes, olds, base}
+use Rattle.avi_index.specs.Rows.{old_body, old_rows, count16, old_row}
 use Rattle.avi_model.specs.Pieces.{pieces}
 use Rattle.avi_model.specs.NewFile.{Items, laid, edit_cuts, laid_file, new_children}
 use Rattle.avi_model.proofs.Numbers.{old_keeps}
@@ -83,15 +86,15 @@ module _ (o : List ℕ) (e : Items) where
     pub rows_fit : AllByRecursion (λ t. AllByRecursion (RowFits o (laid_file o e) f Free (order h.ascend) (base o)) (old_rows t.body)) (olds o)
     pub rows_stay : AllByRecursion (λ t. AllByRecursion (RowStays o (laid_file o e) f Free (order h.ascend) (base o) (indexes o)) (old_rows t.body)) (olds o)
 
-  old_moves : (x : Stood) → OldFine x → table_of (carried_to f ws x) ≡ record { at = f ((x.at + 8) - 8) + 8; body = old_body (move f) (base o) x.chunk.body }
+  old_moves : (x : Stood) → OldFine x → table_of (carried_to f ws x) ≡ record { at = f ((x.at + 8) - 8) + 8; body = old_body f (base o) x.chunk.body }
   old_moves x h =
       let c = x.chunk in
       let back : x.at ≡ (x.at + 8) - 8 = omega arith in
       let at8 : x.at + Rattle.container_model.proofs.Written.head_length c ≡ x.at + 8 = omega (arith, h.head) in
-      let own : written ws (x.at + 8) c.body ≡ old_body (move f) (base o) c.body = written_own (write_old (move f) (base o) (table_of x)) ws c.body h.owns.is_there h.owns.alone (sym (Rattle.container_model.proofs.Written.length-map_rows 16 (old_row (move f) (base o)) (count16 c.body) c.body (old_keeps (move f) (base o)))) in
-      ap (λ (b : List ℕ). record { at = f x.at + 8; body = b }) (ap (λ (k : ℕ). written ws k c.body) at8 ∙ own) ∙ ap (λ (k : ℕ). record { at = f k + 8; body = old_body (move f) (base o) c.body }) back
+      let own : written ws (x.at + 8) c.body ≡ old_body f (base o) c.body = written_own (write_old (move f) (base o) (table_of x)) ws c.body h.owns.is_there h.owns.alone (sym (Rattle.container_model.proofs.Written.length-map_rows 16 (old_row f (base o)) (count16 c.body) c.body (old_keeps (move f) (base o)))) in
+      ap (λ (b : List ℕ). record { at = f x.at + 8; body = b }) (ap (λ (k : ℕ). written ws k c.body) at8 ∙ own) ∙ ap (λ (k : ℕ). record { at = f k + 8; body = old_body f (base o) c.body }) back
 
-  olds_move : (xs : List Stood) → AllByRecursion OldFine xs → map table_of (map (carried_to f ws) xs) ≡ map (λ t. record { at = f (t.at - 8) + 8; body = old_body (move f) (base o) t.body }) (map table_of xs)
+  olds_move : (xs : List Stood) → AllByRecursion OldFine xs → map table_of (map (carried_to f ws) xs) ≡ map (λ t. record { at = f (t.at - 8) + 8; body = old_body f (base o) t.body }) (map table_of xs)
   olds_move [] h = refl
   olds_move (x ∷ xs) h = rw (old_moves x h.0, olds_move xs h.1) refl
 

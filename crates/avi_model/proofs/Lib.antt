@@ -45,3 +45,9 @@ pub mod Grows
 pub mod Stands
 pub mod Map
 pub mod Tabled
+pub mod Few
+pub mod AsKind
+pub mod Merged
+pub mod OneSplice
+pub mod Turns
+pub mod Ordered

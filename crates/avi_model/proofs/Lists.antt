@@ -19,7 +19,8 @@ use Rattle.container_model.proofs.Stood.{carried_to, stood_carried, only_all}
 use Rattle.carrier_model.specs.Info.{info, info_items, is_type, list_run, SetsInfo}
 use Rattle.carrier_model.specs.Lists.{edit_lists}
 use Rattle.avi_model.specs.Avi.{forms, Avi, avi_of, inner, form_of, spell_avi, has_id, kids, top, others_at, hdrls, strls, stream_indexes, is_movi, essence}
-use Rattle.avi_model.specs.Index.{move, writes}
+use Rattle.opendml_index.specs.Index.{move}
+use Rattle.avi_model.specs.Index.{writes}
 use Rattle.avi_model.specs.Support.{begins, ListEnds, opened as opened_lists, infos, Supported}
 use Rattle.avi_model.specs.NewFile.{Items, home as behind_hdrl, new_children, laid, edit_cuts, laid_file}
 use Rattle.avi_model.proofs.Read.{Others, Readable, renewed_avi, others_place, forms_again}

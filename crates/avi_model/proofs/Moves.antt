@@ -13,8 +13,13 @@ use Rattle.container_model.proofs.Written.{length-written, slice_clear, length-s
 use Rattle.container_model.proofs.Stay.{Orders, Stays, stays_part, rigid_part}
 use Rattle.part_tree.specs.declared.names.Span.{Span}
 use Rattle.avi_model.specs.Avi.{Avi, avi_of, inner, has_id, kids, top, others_at, strls, stream_indexes, old_indexes, is_movi, essence, body_span, first_span, first_movi}
-use Rattle.avi_model.specs.Index.{Table, table_of, move, writes, is_super, width, entries, super_place, super_places, index_base, entry_offset, entry_length, entry_second, has_second, first_counted, named, named_by, named_in, streams, indexes, Base, from_start, from_movi, base, old_rows, olds, row_offset, row_length, within, is_head, misses}
-use Rattle.avi_model.specs.Support.{SoundIndex, is_index_kind, is_standard_kind, movis, in_one, movi_spans, size_at, SoundPlace, second_lies, SoundEntry, SoundEntries, SoundRow, SoundRows, Supported}
+use Rattle.container_model.specs.Tables.{Table, table_of, named, size_at}
+use Rattle.opendml_index.specs.Index.{move, is_super, width, entries, super_place, super_places, index_base, entry_offset, entry_length, entry_second, has_second, first_counted}
+use Rattle.avi_model.specs.Index.{writes, named_by, named_in, streams, indexes, base, olds, misses}
+use Rattle.avi_index.specs.Rows.{Base, from_start, from_movi, old_rows, row_offset, row_length}
+use Rattle.part_tree.specs.Ranges.{within, in_one}
+use Rattle.opendml_index.specs.Kinds.{SoundIndex, is_index_kind, is_standard_kind, second_lies}
+use Rattle.avi_model.specs.Support.{movis, movi_spans, SoundPlace, SoundEntry, SoundEntries, SoundRow, SoundRows, Supported}
 use Rattle.avi_model.specs.NewFile.{Items, new_cells, new_children, edit_cuts, laid_file}
 use Rattle.avi_model.specs.Large.{Check, offset_checks, second_checks, entry_checks, standard_checks, index_checks, row_checks, old_checks, limit32}
 use Rattle.avi_model.proofs.Read.{renewed_avi}
@@ -32,7 +37,8 @@ use Rattle.avi_model.proofs.Sound.{ended, holder_of, stream_whole, named_sound, 
 use Rattle.avi_model.proofs.Frames.{opened, same_cuts}
 use Rattle.avi_model.proofs.Essence.{facts, essence_stays, past}
 use Rattle.avi_model.proofs.Fit.{Passes, Fits}
-use Rattle.avi_model.proofs.Entries.{super_kind, standard_kind, super_index, standard_index, entry_long, place_named, first_is, row_length_is}
+use Rattle.opendml_index.proofs.Known.{super_kind, standard_kind, super_index, standard_index}
+use Rattle.avi_model.proofs.Entries.{entry_long, place_named, first_is, row_length_is}
 
 -- a range that stays ends inside the new file
 pub stays_end : (o n : List ℕ) (f : ℕ → ℕ) (Ok : ℕ → Type 0) (p len : ℕ) → Stays o n f Ok p len → 0 < len → f p + len ≤ length n
@@ -402,7 +408,7 @@ module _ (o : List ℕ) (bytes : IsBytes o) (s : Supported o) (e : Items) (small
         }
 
     row_long : (t : Table) (r : List ℕ) → Among r (old_rows t.body) → length r ≡ 16
-    row_long t r i = row_length_is 16 (Rattle.avi_model.specs.Index.count16 t.body) t.body (Rattle.avi_model.proofs.Pieces.holds_sixteen (Rattle.avi_model.specs.Index.count16 t.body) t.body (Rattle.std.proofs.Math.Nat.div-mul-le_self (length t.body) 16)) r i
+    row_long t r i = row_length_is 16 (Rattle.avi_index.specs.Rows.count16 t.body) t.body (Rattle.avi_model.proofs.Pieces.holds_sixteen (Rattle.avi_index.specs.Rows.count16 t.body) t.body (Rattle.std.proofs.Math.Nat.div-mul-le_self (length t.body) 16)) r i
 
     rows_fit : (t : Table) → Among t (olds o) → AllByRecursion (RowFits o n f Free ord (base o)) (old_rows t.body)
     rows_fit t i = go (base o) (among_all (SoundRows (base o) (first_movi a) (indexes o)) (olds o) s.rows_sound t i) (among_all (λ t. Passes (old_checks f (base o) t)) (olds o) fit.rows_fit t i)

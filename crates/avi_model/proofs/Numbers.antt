@@ -7,7 +7,9 @@ use Rattle.std.proofs.lemmas.Nat.{from_le_bytes-to_le_bytes_4, from_le_bytes-to_
 use Rattle.std.proofs.lemmas.List.{length-append, length-take, length-drop, drop_at}
 use Rattle.container_model.specs.Written.{slice, Write, rows, map_rows}
 use Rattle.container_model.proofs.Written.{length-written, slice_clear, slice_own, slice_front, slice_slice, Holds, KeepsLength, rows_map, length-map_rows}
-use Rattle.avi_model.specs.Index.{le32_at, le64_at, put32, put64, How, is_super, width, used, entries, super_place, super_by, super_row, super_body, entry_length, has_second, index_base, second_by, entry_by, entry_row, first_counted, standard_with, standard_by, index_by, index_body, row_length, Base, from_start, from_movi, old_by, old_row}
+use Rattle.container_model.specs.Tables.{le32_at, le64_at, put32, put64}
+use Rattle.opendml_index.specs.Index.{How, is_super, width, used, entries, super_place, super_by, super_row, super_body, entry_length, has_second, index_base, second_by, entry_by, entry_row, first_counted, standard_with, standard_by, index_by, index_body}
+use Rattle.avi_index.specs.Rows.{row_length, Base, from_start, from_movi, old_by, old_row}
 
 -- ---- one number
 
@@ -53,10 +55,10 @@ entry_keeps v r = go (eqb (entry_length r) 0)
     go true = refl
     go false = length-put32 0 _ (second_by v r (has_second r)) ∙ second_keeps v r (has_second r)
 
-pub old_keeps : (h : How) (b : Base) → KeepsLength (old_row h b)
+pub old_keeps : (h : How) (b : Base) → KeepsLength (old_row h.place b)
 old_keeps h b r = go b (eqb (row_length r) 0)
   where
-    go : (b : Base) (t : Bool) → length (old_by h r b t) ≡ length r
+    go : (b : Base) (t : Bool) → length (old_by h.place r b t) ≡ length r
     go from_start false = length-put32 8 _ r
     go from_start true = refl
     go from_movi t = refl
@@ -167,10 +169,10 @@ super_slices h r j n le = go (eqb (super_place r) 0)
     go true = refl
     go false = slice_put64 0 _ r j n (inl (omega arith))
 
-pub old_slices : (h : How) (b : Base) (r : List ℕ) (j n : ℕ) → (12 ≤ j) ⊎ (j + n ≤ 8) → slice (old_row h b r) j n ≡ slice r j n
+pub old_slices : (h : How) (b : Base) (r : List ℕ) (j n : ℕ) → (12 ≤ j) ⊎ (j + n ≤ 8) → slice (old_row h.place b r) j n ≡ slice r j n
 old_slices h b r j n m = go b (eqb (row_length r) 0)
   where
-    go : (b : Base) (t : Bool) → slice (old_by h r b t) j n ≡ slice r j n
+    go : (b : Base) (t : Bool) → slice (old_by h.place r b t) j n ≡ slice r j n
     go from_start false = slice_put32 8 _ r j n m
     go from_start true = refl
     go from_movi t = refl

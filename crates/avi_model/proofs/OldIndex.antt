@@ -14,8 +14,13 @@ use Rattle.container_model.proofs.Stay.{Orders, Rigid, rigid_part}
 use Rattle.carrier_model.specs.Info.{SetsInfo}
 use Rattle.part_tree.specs.declared.names.Span.{Span}
 use Rattle.avi_model.specs.Avi.{Avi, avi_of, inner, body_span, first_movi}
-use Rattle.avi_model.specs.Index.{Table, How, move, writes, indexes, Base, from_start, from_movi, base_at, base_of, base_in, base, old_rows, old_row, old_by, old_body, olds, row_id, row_offset, row_length, decides, put32, within, is_head, misses}
-use Rattle.avi_model.specs.Support.{stands_at, based_by, is_based, SoundRow, SoundRows, Supported}
+use Rattle.container_model.specs.Tables.{Table, put32}
+use Rattle.opendml_index.specs.Index.{move}
+use Rattle.avi_model.specs.Index.{writes, indexes, base_in, base, olds, is_head, misses, spans}
+use Rattle.avi_index.specs.Rows.{Base, from_start, from_movi, base_at, base_of, old_rows, old_row, old_by, old_body, row_id, row_offset, row_length, decides}
+use Rattle.part_tree.specs.Ranges.{within}
+use Rattle.avi_model.specs.Support.{SoundRow, SoundRows, Supported}
+use Rattle.avi_index.specs.Found.{stands_at, based_by, is_based}
 use Rattle.avi_model.specs.NewFile.{Items, new_children, edit_cuts, laid_file}
 use Rattle.avi_model.proofs.Read.{renewed_avi}
 use Rattle.avi_model.proofs.Numbers.{slice_put32, le32_put, old_slices}
@@ -134,7 +139,7 @@ module _ (o : List ℕ) (bytes : IsBytes o) (s : Supported o) (e : Items) (small
   misses_kept p len some r m = misses_moves o n f Free order ts p len moves.indexes_rest some r ∙ m
 
   -- an identifier stands where it stood
-  stands_kept : (r q : List ℕ) (p : ℕ) → row_id q ≡ row_id r → InFirst p 4 → stands_at o ts r p ≡ true → stands_at n (map moved ts) q (f p) ≡ true
+  stands_kept : (r q : List ℕ) (p : ℕ) → row_id q ≡ row_id r → InFirst p 4 → stands_at o (spans ts) r p ≡ true → stands_at n (spans (map moved ts)) q (f p) ≡ true
   stands_kept r q p id w st =
       let parts = and_parts (bytes_eq (slice o p 4) (row_id r)) (is_head ts p || misses ts p 4) st in
       let m = moves_in o bytes s e small h (movi_among o bytes s e small fit) p 4 w.low w.high (omega arith) in
@@ -149,15 +154,15 @@ module _ (o : List ℕ) (bytes : IsBytes o) (s : Supported o) (e : Items) (small
 
   -- ---- the base
 
-  start_based : (rs : List (List ℕ)) → AllByRecursion (RowFits o n f Free order from_start) rs → AllByRecursion (λ r. eqb (row_length r) 0 ≡ false → SoundRow movi ts r) rs → base_of movi.at rs ≡ from_start → is_based o ts movi rs ≡ true → is_based n (map moved ts) new_movi (map (old_row (move f) from_start) rs) ≡ true
+  start_based : (rs : List (List ℕ)) → AllByRecursion (RowFits o n f Free order from_start) rs → AllByRecursion (λ r. eqb (row_length r) 0 ≡ false → SoundRow movi ts r) rs → base_of movi.at rs ≡ from_start → is_based o (spans ts) movi rs ≡ true → is_based n (spans (map moved ts)) new_movi (map (old_row f from_start) rs) ≡ true
   start_based [] fits g b k = refl
   start_based (r ∷ rs) fits g b k =
-      ap (λ (d : Bool). cond d (based_by n (map moved ts) new_movi (old_row (move f) from_start r) (ltb (row_offset (old_row (move f) from_start r)) (f movi.at))) (is_based n (map moved ts) new_movi (map (old_row (move f) from_start) rs))) (decides_moves o n f Free order from_start r)
+      ap (λ (d : Bool). cond d (based_by n (spans (map moved ts)) new_movi (old_row f from_start r) (ltb (row_offset (old_row f from_start r)) (f movi.at))) (is_based n (spans (map moved ts)) new_movi (map (old_row f from_start) rs))) (decides_moves o n f Free order from_start r)
       ∙ go (decides r) refl b k (start_based rs fits.1 g.1)
     where
-      one : decides r ≡ true → base_at (ltb (row_offset r) movi.at) ≡ from_start → based_by o ts movi r (ltb (row_offset r) movi.at) ≡ true → based_by n (map moved ts) new_movi (old_row (move f) from_start r) (ltb (row_offset (old_row (move f) from_start r)) (f movi.at)) ≡ true
+      one : decides r ≡ true → base_at (ltb (row_offset r) movi.at) ≡ from_start → based_by o (spans ts) movi r (ltb (row_offset r) movi.at) ≡ true → based_by n (spans (map moved ts)) new_movi (old_row f from_start r) (ltb (row_offset (old_row f from_start r)) (f movi.at)) ≡ true
       one d b k =
-          let p = and_parts (not (eqb (row_length r) 0)) (eqb (Rattle.avi_model.specs.Index.row_flags r % 2) 0) d in
+          let p = and_parts (not (eqb (row_length r) 0)) (eqb (Rattle.avi_index.specs.Rows.row_flags r % 2) 0) d in
           let c : eqb (row_length r) 0 ≡ false = not_true o n f Free order (eqb (row_length r) 0) p.0 in
           let far = start_at o n f Free order (ltb (row_offset r) movi.at) b in
           let some : 0 < row_length r = omega (arith, eqb-false (row_length r) 0 c) in
@@ -165,44 +170,44 @@ module _ (o : List ℕ) (bytes : IsBytes o) (s : Supported o) (e : Items) (small
           let w = in_first (row_offset r) (8 + row_length r) sound.lies in
           let fit_r = fits.0 c in
           let q = put32 8 (f (row_offset r)) r in
-          let is : old_row (move f) from_start r ≡ q = ap (old_by (move f) r from_start) c in
+          let is : old_row f from_start r ≡ q = ap (old_by f r from_start) c in
           let num : row_offset q ≡ f (row_offset r) = le32_put 8 (f (row_offset r)) r fit_r.0 fit_r.1 in
           let id : row_id q ≡ row_id r = slice_put32 8 (f (row_offset r)) r 0 4 (inr (omega arith)) in
-          let stands : stands_at o ts r (row_offset r) ≡ true = subst (λ (t : Bool). based_by o ts movi r t ≡ true) far k in
+          let stands : stands_at o (spans ts) r (row_offset r) ≡ true = subst (λ (t : Bool). based_by o (spans ts) movi r t ≡ true) far k in
           let low = w.low in
           let high = w.high in
           let kept = stands_kept r q (row_offset r) id (record { low = low; high = omega (arith, high) }) stands in
-          ap (based_by n (map moved ts) new_movi (old_row (move f) from_start r)) (offset_moves o n f Free order movi.at moves.movi_ok r fits.0 c ∙ far)
-          ∙ ap (λ (x : List ℕ). stands_at n (map moved ts) x (row_offset x)) is ∙ ap (stands_at n (map moved ts) q) num ∙ kept
+          ap (based_by n (spans (map moved ts)) new_movi (old_row f from_start r)) (offset_moves o n f Free order movi.at moves.movi_ok r fits.0 c ∙ far)
+          ∙ ap (λ (x : List ℕ). stands_at n (spans (map moved ts)) x (row_offset x)) is ∙ ap (stands_at n (spans (map moved ts)) q) num ∙ kept
 
-      go : (d : Bool) → decides r ≡ d → cond d (base_at (ltb (row_offset r) movi.at)) (base_of movi.at rs) ≡ from_start → cond d (based_by o ts movi r (ltb (row_offset r) movi.at)) (is_based o ts movi rs) ≡ true
-          → (base_of movi.at rs ≡ from_start → is_based o ts movi rs ≡ true → is_based n (map moved ts) new_movi (map (old_row (move f) from_start) rs) ≡ true)
-          → cond d (based_by n (map moved ts) new_movi (old_row (move f) from_start r) (ltb (row_offset (old_row (move f) from_start r)) (f movi.at))) (is_based n (map moved ts) new_movi (map (old_row (move f) from_start) rs)) ≡ true
+      go : (d : Bool) → decides r ≡ d → cond d (base_at (ltb (row_offset r) movi.at)) (base_of movi.at rs) ≡ from_start → cond d (based_by o (spans ts) movi r (ltb (row_offset r) movi.at)) (is_based o (spans ts) movi rs) ≡ true
+          → (base_of movi.at rs ≡ from_start → is_based o (spans ts) movi rs ≡ true → is_based n (spans (map moved ts)) new_movi (map (old_row f from_start) rs) ≡ true)
+          → cond d (based_by n (spans (map moved ts)) new_movi (old_row f from_start r) (ltb (row_offset (old_row f from_start r)) (f movi.at))) (is_based n (spans (map moved ts)) new_movi (map (old_row f from_start) rs)) ≡ true
       go true d b k again = one d b k
       go false d b k again = again b k
 
-  movi_based : (rs : List (List ℕ)) → base_of movi.at rs ≡ from_movi → is_based o ts movi rs ≡ true → is_based n (map moved ts) new_movi (map (old_row (move f) from_movi) rs) ≡ true
+  movi_based : (rs : List (List ℕ)) → base_of movi.at rs ≡ from_movi → is_based o (spans ts) movi rs ≡ true → is_based n (spans (map moved ts)) new_movi (map (old_row f from_movi) rs) ≡ true
   movi_based [] b k = refl
   movi_based (r ∷ rs) b k = go (decides r) b k (movi_based rs)
     where
-      one : base_at (ltb (row_offset r) movi.at) ≡ from_movi → based_by o ts movi r (ltb (row_offset r) movi.at) ≡ true → based_by n (map moved ts) new_movi r (ltb (row_offset r) (f movi.at)) ≡ true
+      one : base_at (ltb (row_offset r) movi.at) ≡ from_movi → based_by o (spans ts) movi r (ltb (row_offset r) movi.at) ≡ true → based_by n (spans (map moved ts)) new_movi r (ltb (row_offset r) (f movi.at)) ≡ true
       one b k =
           let near = movi_at o n f Free order (ltb (row_offset r) movi.at) b in
           let less = ltb-true (row_offset r) movi.at near in
-          let old : (within movi (movi.at + row_offset r) 4 && stands_at o ts r (movi.at + row_offset r)) ≡ true = subst (λ (t : Bool). based_by o ts movi r t ≡ true) near k in
-          let p = and_parts (within movi (movi.at + row_offset r) 4) (stands_at o ts r (movi.at + row_offset r)) old in
+          let old : (within movi (movi.at + row_offset r) 4 && stands_at o (spans ts) r (movi.at + row_offset r)) ≡ true = subst (λ (t : Bool). based_by o (spans ts) movi r t ≡ true) near k in
+          let p = and_parts (within movi (movi.at + row_offset r) 4) (stands_at o (spans ts) r (movi.at + row_offset r)) old in
           let w = in_first (movi.at + row_offset r) 4 p.0 in
           let q = and_parts (leb movi.at (movi.at + row_offset r)) (leb ((movi.at + row_offset r) + 4) (movi.at + movi.len)) p.0 in
           let high = leb-true ((movi.at + row_offset r) + 4) (movi.at + movi.len) q.1 in
           let here : f (movi.at + row_offset r) ≡ f movi.at + row_offset r = (moves.movi_rigid (row_offset r) (omega (arith, high))).1 in
           let still_near : ltb (row_offset r) (f movi.at) ≡ true = lt-ltb (row_offset r) (f movi.at) (omega (arith, less, moves.movi_grows)) in
           let inside : within new_movi (f movi.at + row_offset r) 4 ≡ true = within_moves o n f Free order movi.at (f movi.at) movi.len (row_offset r) 4 ∙ p.0 in
-          let stands : stands_at n (map moved ts) r (f movi.at + row_offset r) ≡ true = ap (stands_at n (map moved ts) r) (sym here) ∙ stands_kept r r (movi.at + row_offset r) refl w p.1 in
-          ap (based_by n (map moved ts) new_movi r) still_near ∙ rw (inside, stands) refl
+          let stands : stands_at n (spans (map moved ts)) r (f movi.at + row_offset r) ≡ true = ap (stands_at n (spans (map moved ts)) r) (sym here) ∙ stands_kept r r (movi.at + row_offset r) refl w p.1 in
+          ap (based_by n (spans (map moved ts)) new_movi r) still_near ∙ rw (inside, stands) refl
 
-      go : (d : Bool) → cond d (base_at (ltb (row_offset r) movi.at)) (base_of movi.at rs) ≡ from_movi → cond d (based_by o ts movi r (ltb (row_offset r) movi.at)) (is_based o ts movi rs) ≡ true
-          → (base_of movi.at rs ≡ from_movi → is_based o ts movi rs ≡ true → is_based n (map moved ts) new_movi (map (old_row (move f) from_movi) rs) ≡ true)
-          → cond d (based_by n (map moved ts) new_movi r (ltb (row_offset r) (f movi.at))) (is_based n (map moved ts) new_movi (map (old_row (move f) from_movi) rs)) ≡ true
+      go : (d : Bool) → cond d (base_at (ltb (row_offset r) movi.at)) (base_of movi.at rs) ≡ from_movi → cond d (based_by o (spans ts) movi r (ltb (row_offset r) movi.at)) (is_based o (spans ts) movi rs) ≡ true
+          → (base_of movi.at rs ≡ from_movi → is_based o (spans ts) movi rs ≡ true → is_based n (spans (map moved ts)) new_movi (map (old_row f from_movi) rs) ≡ true)
+          → cond d (based_by n (spans (map moved ts)) new_movi r (ltb (row_offset r) (f movi.at))) (is_based n (spans (map moved ts)) new_movi (map (old_row f from_movi) rs)) ≡ true
       go true b k again = one b k
       go false b k again = again b k
 
@@ -216,22 +221,22 @@ module _ (o : List ℕ) (bytes : IsBytes o) (s : Supported o) (e : Items) (small
       go (u ∷ []) e (inr i) = absurd i
       go (u ∷ v ∷ us) e i = absurd (Rattle.avi_model.proofs.OldOne.one_old (Rattle.avi_model.specs.Avi.top (avi_of o)) u v us e)
 
-  pub new_based : AllByRecursion (λ t. is_based n (indexes n) (first_movi (avi_of n)) (old_rows t.body) ≡ true) (olds n)
+  pub new_based : AllByRecursion (λ t. is_based n (spans (indexes n)) (first_movi (avi_of n)) (old_rows t.body) ≡ true) (olds n)
   new_based =
-      subst (λ (us : List Table). AllByRecursion (λ t. is_based n (indexes n) (first_movi (avi_of n)) (old_rows t.body) ≡ true) us) (sym moves.olds_move)
-      (all_mapped (λ t. is_based n (indexes n) (first_movi (avi_of n)) (old_rows t.body) ≡ true) (moved_old o n f Free order (base o)) (olds o) one)
+      subst (λ (us : List Table). AllByRecursion (λ t. is_based n (spans (indexes n)) (first_movi (avi_of n)) (old_rows t.body) ≡ true) us) (sym moves.olds_move)
+      (all_mapped (λ t. is_based n (spans (indexes n)) (first_movi (avi_of n)) (old_rows t.body) ≡ true) (moved_old o n f Free order (base o)) (olds o) one)
     where
-      by : (b : Base) (t : Table) → base_of movi.at (old_rows t.body) ≡ b → AllByRecursion (RowFits o n f Free order b) (old_rows t.body) → SoundRows b movi ts t → is_based o ts movi (old_rows t.body) ≡ true → is_based n (map moved ts) new_movi (map (old_row (move f) b) (old_rows t.body)) ≡ true
+      by : (b : Base) (t : Table) → base_of movi.at (old_rows t.body) ≡ b → AllByRecursion (RowFits o n f Free order b) (old_rows t.body) → SoundRows b movi ts t → is_based o (spans ts) movi (old_rows t.body) ≡ true → is_based n (spans (map moved ts)) new_movi (map (old_row f b) (old_rows t.body)) ≡ true
       by from_start t e fits g k = start_based (old_rows t.body) fits g e k
       by from_movi t e fits g k = movi_based (old_rows t.body) e k
 
-      one : (t : Table) → Among t (olds o) → is_based n (indexes n) (first_movi (avi_of n)) (old_rows (old_body (move f) (base o) t.body)) ≡ true
+      one : (t : Table) → Among t (olds o) → is_based n (spans (indexes n)) (first_movi (avi_of n)) (old_rows (old_body f (base o) t.body)) ≡ true
       one t i =
-          ap (λ (us : List Table). is_based n us (first_movi (avi_of n)) (old_rows (old_body (move f) (base o) t.body))) moves.indexes_move
-          ∙ ap (λ (x : Span). is_based n (map moved ts) x (old_rows (old_body (move f) (base o) t.body))) moves.movi_moves
-          ∙ ap (is_based n (map moved ts) new_movi) (old_rows_map (move f) (base o) t.body)
+          ap (λ (us : List Table). is_based n (spans us) (first_movi (avi_of n)) (old_rows (old_body f (base o) t.body))) moves.indexes_move
+          ∙ ap (λ (x : Span). is_based n (spans (map moved ts)) x (old_rows (old_body f (base o) t.body))) moves.movi_moves
+          ∙ ap (is_based n (spans (map moved ts)) new_movi) (old_rows_map (move f) (base o) t.body)
           ∙ by (base o) t (base_rows (olds o) t refl i) (among_all (λ t. AllByRecursion (RowFits o n f Free order (base o)) (old_rows t.body)) (olds o) moves.rows_fit t i) (among_all (SoundRows (base o) movi ts) (olds o) s.rows_sound t i)
-          (among_all (λ t. is_based o ts movi (old_rows t.body) ≡ true) (olds o) s.based t i)
+          (among_all (λ t. is_based o (spans ts) movi (old_rows t.body) ≡ true) (olds o) s.based t i)
 
   -- ---- the rows
 
@@ -243,32 +248,32 @@ module _ (o : List ℕ) (bytes : IsBytes o) (s : Supported o) (e : Items) (small
       (subst (λ (x : Span). AllByRecursion (SoundRows (base o) x (map moved ts)) (map (moved_old o n f Free order (base o)) (olds o))) (sym moves.movi_moves)
       (all_mapped (SoundRows (base o) new_movi (map moved ts)) (moved_old o n f Free order (base o)) (olds o) one))))
     where
-      row : (r : List ℕ) → RowFits o n f Free order from_start r → (eqb (row_length r) 0 ≡ false → SoundRow movi ts r) → eqb (row_length (old_row (move f) from_start r)) 0 ≡ false → SoundRow new_movi (map moved ts) (old_row (move f) from_start r)
+      row : (r : List ℕ) → RowFits o n f Free order from_start r → (eqb (row_length r) 0 ≡ false → SoundRow movi ts r) → eqb (row_length (old_row f from_start r)) 0 ≡ false → SoundRow new_movi (map moved ts) (old_row f from_start r)
       row r fits g c2 =
-          let len : row_length (old_row (move f) from_start r) ≡ row_length r = ap (from_le_bytes w32) (old_slices (move f) from_start r 12 4 (inl (omega arith))) in
+          let len : row_length (old_row f from_start r) ≡ row_length r = ap (from_le_bytes w32) (old_slices (move f) from_start r 12 4 (inl (omega arith))) in
           let c : eqb (row_length r) 0 ≡ false = ap (λ (k : ℕ). eqb k 0) (sym len) ∙ c2 in
           let some : 0 < row_length r = omega (arith, eqb-false (row_length r) 0 c) in
           let q = g c in
           let k = fits c in
-          let is : old_row (move f) from_start r ≡ put32 8 (f (row_offset r)) r = ap (old_by (move f) r from_start) c in
-          let num : row_offset (old_row (move f) from_start r) ≡ f (row_offset r) = ap row_offset is ∙ le32_put 8 (f (row_offset r)) r k.0 k.1 in
+          let is : old_row f from_start r ≡ put32 8 (f (row_offset r)) r = ap (old_by f r from_start) c in
+          let num : row_offset (old_row f from_start r) ≡ f (row_offset r) = ap row_offset is ∙ le32_put 8 (f (row_offset r)) r k.0 k.1 in
           let eight = k.2 8 (omega (arith, some)) in
-          let inside : within new_movi (row_offset (old_row (move f) from_start r)) (8 + row_length (old_row (move f) from_start r)) ≡ true
-          = ap (λ (p : ℕ). within new_movi p (8 + row_length (old_row (move f) from_start r))) num ∙ ap (λ (p : ℕ). within new_movi (f (row_offset r)) (8 + p)) len ∙ within_kept (row_offset r) (8 + row_length r) q.lies (omega arith) in
+          let inside : within new_movi (row_offset (old_row f from_start r)) (8 + row_length (old_row f from_start r)) ≡ true
+          = ap (λ (p : ℕ). within new_movi p (8 + row_length (old_row f from_start r))) num ∙ ap (λ (p : ℕ). within new_movi (f (row_offset r)) (8 + p)) len ∙ within_kept (row_offset r) (8 + row_length r) q.lies (omega arith) in
           let part : Rigid f Free (row_offset r + 8) (row_length r) = rigid_part f Free (row_offset r) (8 + row_length r) 8 (row_length r) (omega arith) (omega (arith, some)) k.2 in
           let clear : (is_head (map moved ts) (f (row_offset r)) || misses (map moved ts) (f (row_offset r) + 8) (row_length r)) ≡ true
           = both_or (is_head ts (row_offset r)) (misses ts (row_offset r + 8) (row_length r)) (is_head (map moved ts) (f (row_offset r))) (misses (map moved ts) (f (row_offset r) + 8) (row_length r)) (head_kept (row_offset r))
           (λ m. ap (λ (p : ℕ). misses (map moved ts) p (row_length r)) (sym eight.1) ∙ misses_kept (row_offset r + 8) (row_length r) some part m) q.clear in
           record {
             lies = inside;
-            clear = ap (λ (p : ℕ). is_head (map moved ts) p || misses (map moved ts) (p + 8) (row_length (old_row (move f) from_start r))) num ∙ ap (λ (p : ℕ). is_head (map moved ts) (f (row_offset r)) || misses (map moved ts) (f (row_offset r) + 8) p) len ∙ clear;
+            clear = ap (λ (p : ℕ). is_head (map moved ts) p || misses (map moved ts) (p + 8) (row_length (old_row f from_start r))) num ∙ ap (λ (p : ℕ). is_head (map moved ts) (f (row_offset r)) || misses (map moved ts) (f (row_offset r) + 8) p) len ∙ clear;
           }
 
       by : (b : Base) (t : Table) → AllByRecursion (RowFits o n f Free order b) (old_rows t.body) → SoundRows b movi ts t → SoundRows b new_movi (map moved ts) (moved_old o n f Free order b t)
       by from_movi t fits g = tt
       by from_start t fits g =
           subst (λ (rs : List (List ℕ)). AllByRecursion (λ r. eqb (row_length r) 0 ≡ false → SoundRow new_movi (map moved ts) r) rs) (sym (old_rows_map (move f) from_start t.body))
-          (all_mapped (λ r. eqb (row_length r) 0 ≡ false → SoundRow new_movi (map moved ts) r) (old_row (move f) from_start) (old_rows t.body)
+          (all_mapped (λ r. eqb (row_length r) 0 ≡ false → SoundRow new_movi (map moved ts) r) (old_row f from_start) (old_rows t.body)
           (λ r j. row r (among_all (RowFits o n f Free order from_start) (old_rows t.body) fits r j) (among_all (λ r. eqb (row_length r) 0 ≡ false → SoundRow movi ts r) (old_rows t.body) g r j)))
 
       one : (t : Table) → Among t (olds o) → SoundRows (base o) new_movi (map moved ts) (moved_old o n f Free order (base o) t)

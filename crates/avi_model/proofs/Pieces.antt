@@ -12,7 +12,11 @@ use Rattle.container_model.proofs.Written.{Holds, rows_map, length-map_rows}
 use Rattle.container_model.proofs.Stay.{Orders, Rigid, Stays, rigid_part, stays_part, lt_moves, eq_moves, end_moves}
 use Rattle.part_tree.specs.declared.names.Span.{Span}
 use Rattle.avi_model.specs.Avi.{avi_of, first_movi}
-use Rattle.avi_model.specs.Index.{le32_at, put32, put64, Table, How, move, is_super, entries, super_place, used_place, place_by, super_by, super_row, entry_offset, entry_length, entry_second, has_second, index_base, second_by, entry_by, entry_row, first_counted, standard_by, index_by, index_body, row_id, row_flags, row_offset, row_length, Base, from_start, from_movi, decides, base_at, base_of, old_by, old_row, within, is_head, misses, ordinal, count16, old_rows, old_body, indexes, olds, base_in, base}
+use Rattle.container_model.specs.Tables.{le32_at, put32, put64, Table, ordinal}
+use Rattle.opendml_index.specs.Index.{How, move, is_super, entries, super_place, used_place, place_by, super_by, super_row, entry_offset, entry_length, entry_second, has_second, index_base, second_by, entry_by, entry_row, first_counted, standard_by, index_by, index_body}
+use Rattle.avi_index.specs.Rows.{row_id, row_flags, row_offset, row_length, Base, from_start, from_movi, decides, base_at, base_of, old_by, old_row, count16, old_rows, old_body}
+use Rattle.part_tree.specs.Ranges.{within}
+use Rattle.avi_model.specs.Index.{is_head, misses, indexes, olds, base_in, base}
 use Rattle.avi_model.specs.Pieces.{Found, found_by, counted_by, old_found, super, super_found_by, super_found, Standard, uncounted, standard, second_found, entry_found_by, entry_found, Finds, supers, finds_by, finds, Pieces, pieces}
 use Rattle.avi_model.proofs.Numbers.{slice_put32, slice_put64, le32_put, le64_put, length-put32, Whole, super_entries, standard_entries, standard_base, index_length, index_is, old_slices, old_keeps}
 
@@ -21,11 +25,11 @@ holds_sixteen zero b h = tt
 holds_sixteen (suc n) b h = (omega arith, holds_sixteen n (drop 16 b) (omega (arith, length-drop 16 b)))
 
 -- the entries of idx1 with their numbers changed
-pub old_rows_map : (h : How) (b : Base) (body : List ℕ) → old_rows (old_body h b body) ≡ map (old_row h b) (old_rows body)
+pub old_rows_map : (h : How) (b : Base) (body : List ℕ) → old_rows (old_body h.place b body) ≡ map (old_row h.place b) (old_rows body)
 old_rows_map h b body =
     let n = count16 body in
-    let same : count16 (old_body h b body) ≡ n = ap (λ (k : ℕ). k / 16) (length-map_rows 16 (old_row h b) n body (old_keeps h b)) in
-    ap (λ (k : ℕ). rows 16 k (old_body h b body)) same ∙ rows_map 16 (old_row h b) n body (old_keeps h b) (holds_sixteen n body (div-mul-le_self (length body) 16))
+    let same : count16 (old_body h.place b body) ≡ n = ap (λ (k : ℕ). k / 16) (length-map_rows 16 (old_row h.place b) n body (old_keeps h b)) in
+    ap (λ (k : ℕ). rows 16 k (old_body h.place b body)) same ∙ rows_map 16 (old_row h.place b) n body (old_keeps h b) (holds_sixteen n body (div-mul-le_self (length body) 16))
 
 leb_more : (a b k : ℕ) → leb (a + k) (b + k) ≡ leb a b
 leb_more a b k = go (cases_lt b a)
@@ -284,10 +288,10 @@ module _ (o n : List ℕ) (f : ℕ → ℕ) (Ok : ℕ → Type 0) (order : Order
   length_some x e = omega (arith, eqb-false x 0 e)
 
   start_moves : (ts : List Table) → AllByRecursion Rests ts → (movi movi2 : Span) (r : List ℕ) → RowFits from_start r → RowStays from_start ts r
-      → old_found n from_start movi2 (map moved_index ts) (old_row (move f) from_start r) ≡ old_found o from_start movi ts r
+      → old_found n from_start movi2 (map moved_index ts) (old_row f from_start r) ≡ old_found o from_start movi ts r
   start_moves ts rests movi movi2 r h same = go (eqb (row_length r) 0) refl
     where
-      go : (t : Bool) → eqb (row_length r) 0 ≡ t → old_found n from_start movi2 (map moved_index ts) (old_by (move f) r from_start t) ≡ counted_by o ts r (row_offset r) (not t)
+      go : (t : Bool) → eqb (row_length r) 0 ≡ t → old_found n from_start movi2 (map moved_index ts) (old_by f r from_start t) ≡ counted_by o ts r (row_offset r) (not t)
       go true e = ap (λ (t : Bool). counted_by n (map moved_index ts) r (row_offset r) (not t)) e
       go false e =
           let x = h e in
@@ -353,11 +357,11 @@ module _ (o n : List ℕ) (f : ℕ → ℕ) (Ok : ℕ → Type 0) (order : Order
   -- ---- the base
 
   abbrev pub moved_old : Base → Table → Table
-  moved_old b t = record { at = f (t.at - 8) + 8; body = old_body (move f) b t.body }
+  moved_old b t = record { at = f (t.at - 8) + 8; body = old_body f b t.body }
 
-  pub decides_moves : (b : Base) (r : List ℕ) → decides (old_row (move f) b r) ≡ decides r
+  pub decides_moves : (b : Base) (r : List ℕ) → decides (old_row f b r) ≡ decides r
   decides_moves b r =
-      ap (λ (x : List ℕ). not (eqb (from_le_bytes w32 x) 0) && eqb (row_flags (old_row (move f) b r) % 2) 0) (old_slices (move f) b r 12 4 (inl (omega arith)))
+      ap (λ (x : List ℕ). not (eqb (from_le_bytes w32 x) 0) && eqb (row_flags (old_row f b r) % 2) 0) (old_slices (move f) b r 12 4 (inl (omega arith)))
       ∙ ap (λ (x : List ℕ). not (eqb (row_length r) 0) && eqb (from_le_bytes w32 x % 2) 0) (old_slices (move f) b r 4 4 (inr (omega arith)))
 
   pub not_true : (t : Bool) → not t ≡ true → t ≡ false
@@ -372,35 +376,35 @@ module _ (o n : List ℕ) (f : ℕ → ℕ) (Ok : ℕ → Type 0) (order : Order
   movi_at true e = refl
   movi_at false e = absurd cc
 
-  pub offset_moves : (movi : ℕ) → Ok movi → (r : List ℕ) → RowFits from_start r → eqb (row_length r) 0 ≡ false → ltb (row_offset (old_row (move f) from_start r)) (f movi) ≡ ltb (row_offset r) movi
+  pub offset_moves : (movi : ℕ) → Ok movi → (r : List ℕ) → RowFits from_start r → eqb (row_length r) 0 ≡ false → ltb (row_offset (old_row f from_start r)) (f movi) ≡ ltb (row_offset r) movi
   offset_moves movi ok r h e =
       let x = h e in
       let z : row_offset r + 0 ≡ row_offset r = omega arith in
       let here : Ok (row_offset r) = rw z at (x.2 0 (omega arith)).0 in
       let num : row_offset (put32 8 (f (row_offset r)) r) ≡ f (row_offset r) = le32_put 8 (f (row_offset r)) r x.0 x.1 in
-      ap (λ (t : Bool). ltb (row_offset (old_by (move f) r from_start t)) (f movi)) e ∙ ap (λ (k : ℕ). ltb k (f movi)) num ∙ lt_moves f Ok order (row_offset r) movi here ok
+      ap (λ (t : Bool). ltb (row_offset (old_by f r from_start t)) (f movi)) e ∙ ap (λ (k : ℕ). ltb k (f movi)) num ∙ lt_moves f Ok order (row_offset r) movi here ok
 
-  start_base : (movi : ℕ) → Ok movi → (rs : List (List ℕ)) → AllByRecursion (RowFits from_start) rs → base_of movi rs ≡ from_start → base_of (f movi) (map (old_row (move f) from_start) rs) ≡ from_start
+  start_base : (movi : ℕ) → Ok movi → (rs : List (List ℕ)) → AllByRecursion (RowFits from_start) rs → base_of movi rs ≡ from_start → base_of (f movi) (map (old_row f from_start) rs) ≡ from_start
   start_base movi ok [] h e = e
   start_base movi ok (r ∷ rs) h e = rw (decides_moves from_start r) (go (decides r) refl e (start_base movi ok rs h.1))
     where
-      go : (d : Bool) → decides r ≡ d → cond d (base_at (ltb (row_offset r) movi)) (base_of movi rs) ≡ from_start → (base_of movi rs ≡ from_start → base_of (f movi) (map (old_row (move f) from_start) rs) ≡ from_start)
-          → cond d (base_at (ltb (row_offset (old_row (move f) from_start r)) (f movi))) (base_of (f movi) (map (old_row (move f) from_start) rs)) ≡ from_start
+      go : (d : Bool) → decides r ≡ d → cond d (base_at (ltb (row_offset r) movi)) (base_of movi rs) ≡ from_start → (base_of movi rs ≡ from_start → base_of (f movi) (map (old_row f from_start) rs) ≡ from_start)
+          → cond d (base_at (ltb (row_offset (old_row f from_start r)) (f movi))) (base_of (f movi) (map (old_row f from_start) rs)) ≡ from_start
       go true d e again =
           let p = and_parts (not (eqb (row_length r) 0)) (eqb (row_flags r % 2) 0) d in
           ap base_at (offset_moves movi ok r h.0 (not_true (eqb (row_length r) 0) p.0)) ∙ e
       go false d e again = again e
 
-  movi_base : (movi : ℕ) → movi ≤ f movi → (rs : List (List ℕ)) → base_of movi rs ≡ from_movi → base_of (f movi) (map (old_row (move f) from_movi) rs) ≡ from_movi
+  movi_base : (movi : ℕ) → movi ≤ f movi → (rs : List (List ℕ)) → base_of movi rs ≡ from_movi → base_of (f movi) (map (old_row f from_movi) rs) ≡ from_movi
   movi_base movi low [] e = e
   movi_base movi low (r ∷ rs) e = go (decides r) e (movi_base movi low rs)
     where
-      go : (d : Bool) → cond d (base_at (ltb (row_offset r) movi)) (base_of movi rs) ≡ from_movi → (base_of movi rs ≡ from_movi → base_of (f movi) (map (old_row (move f) from_movi) rs) ≡ from_movi)
-          → cond d (base_at (ltb (row_offset r) (f movi))) (base_of (f movi) (map (old_row (move f) from_movi) rs)) ≡ from_movi
+      go : (d : Bool) → cond d (base_at (ltb (row_offset r) movi)) (base_of movi rs) ≡ from_movi → (base_of movi rs ≡ from_movi → base_of (f movi) (map (old_row f from_movi) rs) ≡ from_movi)
+          → cond d (base_at (ltb (row_offset r) (f movi))) (base_of (f movi) (map (old_row f from_movi) rs)) ≡ from_movi
       go true e again = let less = ltb-true (row_offset r) movi (movi_at (ltb (row_offset r) movi) e) in rw (lt-ltb (row_offset r) (f movi) (omega (arith, low))) refl
       go false e again = again e
 
-  rows_base : (b : Base) (movi : ℕ) → Ok movi → movi ≤ f movi → (rs : List (List ℕ)) → AllByRecursion (RowFits b) rs → base_of movi rs ≡ b → base_of (f movi) (map (old_row (move f) b) rs) ≡ b
+  rows_base : (b : Base) (movi : ℕ) → Ok movi → movi ≤ f movi → (rs : List (List ℕ)) → AllByRecursion (RowFits b) rs → base_of movi rs ≡ b → base_of (f movi) (map (old_row f b) rs) ≡ b
   rows_base from_start movi ok low rs h e = start_base movi ok rs h e
   rows_base from_movi movi ok low rs h e = movi_base movi low rs e
 
@@ -426,7 +430,7 @@ module _ (o n : List ℕ) (f : ℕ → ℕ) (Ok : ℕ → Type 0) (order : Order
   base_moves b movi ok low (t ∷ ts) h e = ap (base_of (f movi)) (old_rows_map (move f) b t.body) ∙ rows_base b movi ok low (old_rows t.body) h.0 e
 
   rows_move : (ts : List Table) → AllByRecursion Rests ts → (b : Base) (movi : Span) → Rigid f Ok movi.at movi.len → ClearStays ts movi → (r : List ℕ) → RowFits b r × RowStays b ts r
-      → old_found n b (record { at = f movi.at; len = movi.len }) (map moved_index ts) (old_row (move f) b r) ≡ old_found o b movi ts r
+      → old_found n b (record { at = f movi.at; len = movi.len }) (map moved_index ts) (old_row f b r) ≡ old_found o b movi ts r
   rows_move ts rests from_start movi s c r h = start_moves ts rests movi (record { at = f movi.at; len = movi.len }) r h.0 h.1
   rows_move ts rests from_movi movi s c r h = movi_moves ts rests movi s c r
 
@@ -438,7 +442,7 @@ module _ (o n : List ℕ) (f : ℕ → ℕ) (Ok : ℕ → Type 0) (order : Order
       → map (λ t. map (old_found n b (record { at = f movi.at; len = movi.len }) (map moved_index ts)) (old_rows t.body)) (map (moved_old b) us) ≡ map (λ t. map (old_found o b movi ts) (old_rows t.body)) us
   olds_found ts rests b movi s c [] h g = refl
   olds_found ts rests b movi s c (t ∷ us) h g =
-      rw (old_rows_map (move f) b t.body, map_same (λ r. RowFits b r × RowStays b ts r) (old_found n b (record { at = f movi.at; len = movi.len }) (map moved_index ts)) (old_row (move f) b) (old_found o b movi ts) (rows_move ts rests b movi s c) (old_rows t.body) (both_of (RowFits b) (RowStays b ts) (old_rows t.body) h.0 g.0), olds_found ts rests b movi s c us h.1 g.1) refl
+      rw (old_rows_map (move f) b t.body, map_same (λ r. RowFits b r × RowStays b ts r) (old_found n b (record { at = f movi.at; len = movi.len }) (map moved_index ts)) (old_row f b) (old_found o b movi ts) (rows_move ts rests b movi s c) (old_rows t.body) (both_of (RowFits b) (RowStays b ts) (old_rows t.body) h.0 g.0), olds_found ts rests b movi s c us h.1 g.1) refl
 
   abbrev pieces_with : Base → Span → List Table → List Table → Pieces
   pieces_with b movi ts us = record { based = b; olds = map (λ t. map (old_found n b movi ts) (old_rows t.body)) us; indexes = map (finds n ts) ts }

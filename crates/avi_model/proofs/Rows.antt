@@ -19,7 +19,8 @@ use Rattle.container_model.specs.Units.{units}
 use Rattle.avi_model.specs.Why.{why}
 use Rattle.avi_model.specs.NewFile.{laid_file}
 use Rattle.avi_model.specs.Edited.{fields, new_file}
-use Rattle.avi_model.specs.Large.{too_large, first_failing, standard_checks}
+use Rattle.container_model.specs.Tests.{first}
+use Rattle.avi_model.specs.Large.{too_large, standard_checks}
 use Rattle.avi_model.specs.Room.{has_room, patches}
 use Rattle.avi_model.specs.Map.{parts_of, essence_bytes, counted_entries}
 
@@ -189,7 +190,7 @@ abbrev moves_of : ℕ → ℕ
 moves_of p = if nat_lt p 1500 then p else p + 24
 
 -- Base 1000; the first entry names 1500 and the second one 1000. The new base is 1024, and the second entry stands before it.
-before_base_row : first_failing (standard_checks moves_of (le16 2 ++ (0 ∷ 1 ∷ [] ++ (le32 2 ++ (codes "00db" ++ (le64 1000 ++ (le32 0 ++ (le32 500 ++ (le32 8 ++ (le32 0 ++ le32 8))))))))) (Some 500)) ≡ Some (record { size = 1000; limit = 0 })
+before_base_row : first (standard_checks moves_of (le16 2 ++ (0 ∷ 1 ∷ [] ++ (le32 2 ++ (codes "00db" ++ (le64 1000 ++ (le32 0 ++ (le32 500 ++ (le32 8 ++ (le32 0 ++ le32 8))))))))) (Some 500)) ≡ Some (record { size = 1000; limit = 0 })
 before_base_row = refl
 
 -- ---- what is told
@@ -239,7 +240,7 @@ mixed_supported : why (form 516 (streams_hdrl 256 412 296 372 ++ (streams_movi 2
 unfolding chunks read
 mixed_supported = refl
 
-not_broken : broken Avi (fields (frames_file 224 240)) (sets (codes "Hi")) Base ≡ None
+not_broken : broken Avi 0 (fields (frames_file 224 240)) (sets (codes "Hi")) Base ≡ None
 unfolding chunks read chars is_utf8 lib.Utf8.encode
 not_broken = refl
 

@@ -10,7 +10,9 @@ use Rattle.container_model.specs.Written.{slice, Write, covers, written_byte, wr
 use Rattle.container_model.proofs.Codec.{IsBytes, IsBytes-drop}
 use Rattle.container_model.proofs.Fronts.{IsBytes-take}
 use Rattle.container_model.proofs.Written.{covers_not, covers_it, write_end, length-slice, Holds}
-use Rattle.avi_model.specs.Index.{le32_at, le64_at, put32, put64, move, width, used, entries, super_place, super_by, super_row, super_body, entry_offset, entry_length, entry_second, has_second, index_base, second_by, entry_by, entry_row, standard_with, row_offset, row_length, Base, from_start, from_movi, old_by, old_row, old_body, count16, old_rows}
+use Rattle.container_model.specs.Tables.{le32_at, le64_at, put32, put64}
+use Rattle.opendml_index.specs.Index.{move, width, used, entries, super_place, super_by, super_row, super_body, entry_offset, entry_length, entry_second, has_second, index_base, second_by, entry_by, entry_row, standard_with}
+use Rattle.avi_index.specs.Rows.{row_offset, row_length, Base, from_start, from_movi, old_by, old_row, old_body, count16, old_rows}
 use Rattle.avi_model.proofs.Among.{Among}
 
 -- ---- bytes that are written as they stand
@@ -93,11 +95,11 @@ entry_same v r b h = go (eqb (entry_length r) 0) refl
         let x = h e in
         ap (put32 0 (v (entry_offset r))) (second (has_second r) refl x.2) ∙ ap (λ (k : ℕ). put32 0 k r) x.1 ∙ put32_same 0 r b (omega (arith, x.0))
 
-old_same : (f : ℕ → ℕ) (b : Base) (r : List ℕ) → IsBytes r → (eqb (row_length r) 0 ≡ false → b ≡ from_start → (12 ≤ length r) × (f (row_offset r) ≡ row_offset r)) → old_row (move f) b r ≡ r
+old_same : (f : ℕ → ℕ) (b : Base) (r : List ℕ) → IsBytes r → (eqb (row_length r) 0 ≡ false → b ≡ from_start → (12 ≤ length r) × (f (row_offset r) ≡ row_offset r)) → old_row f b r ≡ r
 old_same f from_movi r bytes h = refl
 old_same f from_start r bytes h = go (eqb (row_length r) 0) refl
   where
-    go : (t : Bool) → eqb (row_length r) 0 ≡ t → old_by (move f) r from_start t ≡ r
+    go : (t : Bool) → eqb (row_length r) 0 ≡ t → old_by f r from_start t ≡ r
     go true e = refl
     go false e = let x = h e refl in ap (λ (k : ℕ). put32 8 k r) x.1 ∙ put32_same 8 r bytes (omega (arith, x.0))
 
@@ -121,5 +123,5 @@ standard_table_same nb v body b l same h =
         let z : 0 + 12 ≡ 12 = omega arith in
         ap (from_le_bytes w64) (sym (Rattle.container_model.proofs.Written.slice_slice body 0 24 12 8 (omega arith) ∙ ap (λ (q : ℕ). slice body q 8) z))
 
-pub old_table_same : (f : ℕ → ℕ) (b : Base) (body : List ℕ) → IsBytes body → ((r : List ℕ) → Among r (old_rows body) → eqb (row_length r) 0 ≡ false → b ≡ from_start → (12 ≤ length r) × (f (row_offset r) ≡ row_offset r)) → old_body (move f) b body ≡ body
-old_table_same f b body bytes h = rows_same 16 (old_row (move f) b) (count16 body) body (λ r i. old_same f b r (rows_bytes 16 (count16 body) body bytes r i) (h r i))
+pub old_table_same : (f : ℕ → ℕ) (b : Base) (body : List ℕ) → IsBytes body → ((r : List ℕ) → Among r (old_rows body) → eqb (row_length r) 0 ≡ false → b ≡ from_start → (12 ≤ length r) × (f (row_offset r) ≡ row_offset r)) → old_body f b body ≡ body
+old_table_same f b body bytes h = rows_same 16 (old_row f b) (count16 body) body (λ r i. old_same f b r (rows_bytes 16 (count16 body) body bytes r i) (h r i))

@@ -1,7 +1,7 @@
 -- Index chunks by place are the same chunks.
 use Rattle.std.proofs.Common.{◌≡◌, Bool, true, false, cond, ltb, List, [], ◌∷◌, inl, inr}
 use Rattle.std.specs.Prelude.{◌⊎◌}
-use Rattle.avi_model.specs.Index.{Table}
+use Rattle.container_model.specs.Tables.{Table}
 use Rattle.avi_model.specs.Support.{put_by_place, by_place}
 use Rattle.avi_model.proofs.Among.{Among}
 

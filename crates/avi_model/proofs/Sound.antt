@@ -13,8 +13,13 @@ use Rattle.container_model.proofs.Written.{Misses, In, Alone, Holds}
 use Rattle.carrier_model.specs.Info.{is_type, list_run}
 use Rattle.part_tree.specs.declared.names.Span.{Span}
 use Rattle.avi_model.specs.Avi.{forms, Avi, avi_of, has_id, kids, top, others_at, hdrls, strls, stream_indexes, old_indexes, is_movi, essence, body_span, first_movi}
-use Rattle.avi_model.specs.Index.{Table, table_of, How, move, is_super, width, used, entries, super_places, index_body, named, named_in, named_by, streams, indexes, Base, old_body, count16, olds, base, write_index, write_old, writes, within, misses}
-use Rattle.avi_model.specs.Support.{ListEnds, infos, SoundIndex, is_index_kind, is_standard_kind, in_one, movi_spans, size_at, SoundPlace, put_by_place, by_place, Apart, Supported}
+use Rattle.container_model.specs.Tables.{Table, table_of, named, size_at}
+use Rattle.opendml_index.specs.Index.{How, is_super, width, used, super_places, index_body}
+use Rattle.avi_model.specs.Index.{named_in, named_by, streams, indexes, olds, base, write_index, write_old, writes, misses}
+use Rattle.avi_index.specs.Rows.{Base, old_body, count16}
+use Rattle.part_tree.specs.Ranges.{within, in_one}
+use Rattle.avi_model.specs.Support.{ListEnds, infos, movi_spans, SoundPlace, put_by_place, by_place, Apart, Supported}
+use Rattle.opendml_index.specs.Kinds.{SoundIndex, is_index_kind, is_standard_kind}
 use Rattle.avi_model.proofs.Read.{others_place}
 use Rattle.avi_model.proofs.Forms.{file_read}
 use Rattle.avi_model.proofs.Numbers.{Whole, index_length, old_keeps}
@@ -296,8 +301,8 @@ module _ (o : List ℕ) (bytes : IsBytes o) (s : Supported o) where
     pub index_bytes : (t : Table) → Among t (indexes o) → length (index_body how t.body) ≡ length t.body
     index_bytes t i = index_length how t.body (index_sound t i).whole
 
-    pub old_bytes : (t : Table) → length (old_body how (base o) t.body) ≡ length t.body
-    old_bytes t = Rattle.container_model.proofs.Written.length-map_rows 16 (Rattle.avi_model.specs.Index.old_row how (base o)) (count16 t.body) t.body (old_keeps how (base o))
+    pub old_bytes : (t : Table) → length (old_body how.place (base o) t.body) ≡ length t.body
+    old_bytes t = Rattle.container_model.proofs.Written.length-map_rows 16 (Rattle.avi_index.specs.Rows.old_row how.place (base o)) (count16 t.body) t.body (old_keeps how (base o))
 
     -- a write is of an index chunk, or of idx1
     pub data Writes (w : Write) : Type 0 where

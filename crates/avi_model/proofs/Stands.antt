@@ -12,8 +12,9 @@ use Rattle.container_model.proofs.Stood.{Spelled, stood_spelled}
 use Rattle.container_model.proofs.Written.{slice_slice}
 use Rattle.carrier_model.specs.Info.{list_run}
 use Rattle.avi_model.specs.Avi.{Avi, avi_of, inner, form_of, behind, spell_avi, has_id, kids, top, others_at, strls, stream_indexes, old_indexes, is_movi, essence}
-use Rattle.avi_model.specs.Index.{Table, table_of, How, move, writes, renumbered, is_super, entries, super_place, index_base, entry_offset, entry_length, entry_second, has_second, first_counted, standard_by, index_by, index_body, named, streams, indexes, Base, from_start, base, old_rows, old_body, olds, row_offset, row_length, write_index, write_old}
-use Rattle.avi_model.specs.Support.{Supported, size_at}
+use Rattle.container_model.specs.Tables.{Table, table_of, named, size_at}
+use Rattle.avi_model.specs.Index.{writes, renumbered, streams, indexes, base, olds, write_index, write_old}
+use Rattle.avi_model.specs.Support.{Supported}
 use Rattle.avi_model.proofs.Forms.{file_read}
 use Rattle.avi_model.proofs.Walk.{IsRiffHead}
 use Rattle.avi_model.proofs.Among.{Among, among_all, among_only, among_first, among_append, among_flat, among_map}

@@ -16,8 +16,12 @@ use Rattle.container_model.proofs.Stood.{carried_to}
 use Rattle.carrier_model.specs.Info.{SetsInfo}
 use Rattle.part_tree.specs.declared.names.Span.{Span}
 use Rattle.avi_model.specs.Avi.{Avi, avi_of, inner, body_span, essence}
-use Rattle.avi_model.specs.Index.{Table, How, move, writes, is_super, width, used, entries, super_place, super_places, super_row, super_body, index_base, entry_offset, entry_length, entry_second, has_second, entry_row, entry_by, second_by, first_counted, standard_with, standard_by, index_by, index_body, named, streams, indexes, Base, from_start, from_movi, base, old_rows, old_row, old_by, old_body, olds, row_id, row_flags, row_offset, row_length, decides, put32, within, is_head, misses}
-use Rattle.avi_model.specs.Support.{kind, is_index_kind, is_standard_kind, has_header, has_entries, SoundIndex, in_one, movi_spans, size_at, SoundPlace, put_by_place, by_place, Apart, second_lies, entry_lies, SoundEntry, SoundEntries, stands_at, based_by, is_based, SoundRow, SoundRows, Supported}
+use Rattle.container_model.specs.Tables.{Table, named, put32, size_at}
+use Rattle.opendml_index.specs.Index.{How, move, is_super, width, used, entries, super_place, super_places, super_row, super_body, index_base, entry_offset, entry_length, entry_second, has_second, entry_row, entry_by, second_by, first_counted, standard_with, standard_by, index_by, index_body}
+use Rattle.avi_model.specs.Index.{writes, streams, indexes, base, olds, is_head, misses}
+use Rattle.part_tree.specs.Ranges.{within, in_one}
+use Rattle.opendml_index.specs.Kinds.{kind, is_index_kind, is_standard_kind, SoundIndex, second_lies}
+use Rattle.avi_model.specs.Support.{movi_spans, SoundPlace, put_by_place, by_place, Apart, entry_lies, SoundEntry, SoundEntries, SoundRow, SoundRows, Supported}
 use Rattle.avi_model.specs.NewFile.{Items, new_children, edit_cuts, laid_file}
 use Rattle.avi_model.proofs.Read.{renewed_avi}
 use Rattle.avi_model.proofs.Numbers.{Whole, slice_put32, slice_put64, le32_put, super_front, super_length, super_entries, standard_front, standard_length, standard_entries, standard_base, index_length, index_is, old_slices}
@@ -190,7 +194,7 @@ module _ (o : List ℕ) (bytes : IsBytes o) (s : Supported o) (e : Items) (small
           let old : is_super t.body ≡ true = sym (index_is (move f) t.body w) ∙ super in
           let fits : AllByRecursion (SuperFits o n f Free order) (entries t.body) = Rattle.avi_model.proofs.Moves.super_fits o bytes s e small fit t i old in
           let bodies : index_body (move f) t.body ≡ super_body (move f) t.body = ap (index_by (move f) t.body) old in
-          let places : super_places (index_body (move f) t.body) ≡ map f (super_places t.body) = ap super_places bodies ∙ ap (λ (rs : List (List ℕ)). flat_map Rattle.avi_model.specs.Index.used_place rs) (super_entries (move f) t.body w) ∙ places_move o n f Free order ws (entries t.body) fits in
+          let places : super_places (index_body (move f) t.body) ≡ map f (super_places t.body) = ap super_places bodies ∙ ap (λ (rs : List (List ℕ)). flat_map Rattle.opendml_index.specs.Index.used_place rs) (super_entries (move f) t.body w) ∙ places_move o n f Free order ws (entries t.body) fits in
           subst (AllByRecursion (SoundPlace n)) (sym places) (all_mapped (SoundPlace n) f (super_places t.body) (λ p j. place_sound t i old p j))
 
   -- ---- index chunks stand apart

@@ -10,7 +10,9 @@ use Rattle.container_model.specs.Written.{Write, written}
 use Rattle.container_model.proofs.Codec.{IsBytes}
 use Rattle.container_model.proofs.Written.{Misses, written-append, written_clear, written_own}
 use Rattle.avi_model.specs.Avi.{avi_of, old_indexes}
-use Rattle.avi_model.specs.Index.{Table, table_of, How, writes, renumbered, write_index, write_old, base, indexes, index_body}
+use Rattle.container_model.specs.Tables.{Table, table_of}
+use Rattle.opendml_index.specs.Index.{How, index_body}
+use Rattle.avi_model.specs.Index.{writes, renumbered, write_index, write_old, base, indexes}
 use Rattle.avi_model.specs.Support.{Supported, by_place, Apart}
 use Rattle.avi_model.specs.NewFile.{cut_of_write, put_cut, put_cuts, table_cuts}
 use Rattle.avi_model.proofs.Among.{Among, all_among, among_all, among_map, map_among}
@@ -28,7 +30,7 @@ Apart_from p n c = (p + n ≤ c.at) ⊎ (end_of c ≤ p)
 abbrev Owned : List Write → Cut → Type 0
 Owned ws c = (y : List ℕ) → length y ≡ c.len → written ws c.at y ≡ c.bytes
 
-ascend_end : (from end : ℕ) (cs : List Cut) → Ascend from cs end → from ≤ end
+pub ascend_end : (from end : ℕ) (cs : List Cut) → Ascend from cs end → from ≤ end
 ascend_end from end [] a = a
 ascend_end from end (c ∷ cs) a = omega (arith, a.0, ascend_end (end_of c) end cs a.1)
 
@@ -61,7 +63,7 @@ written_spliced ws at b (c ∷ cs) a o clear =
 
 -- ---- a span put among others
 
-put_ascends : (c : Cut) (from end : ℕ) (ds : List Cut) → Ascend from ds end → from ≤ c.at → end_of c ≤ end → AllByRecursion (λ d. (end_of c ≤ d.at) ⊎ (end_of d ≤ c.at)) ds → Ascend from (put_cut c ds) end
+pub put_ascends : (c : Cut) (from end : ℕ) (ds : List Cut) → Ascend from ds end → from ≤ c.at → end_of c ≤ end → AllByRecursion (λ d. (end_of c ≤ d.at) ⊎ (end_of d ≤ c.at)) ds → Ascend from (put_cut c ds) end
 put_ascends c from end [] a low high h = (low, high)
 put_ascends c from end (d ∷ ds) a low high h = go (leb (end_of c) d.at) refl h.0 (λ l. put_ascends c (end_of d) end ds a.1 l high h.1)
   where
@@ -70,7 +72,7 @@ put_ascends c from end (d ∷ ds) a low high h = go (leb (end_of c) d.at) refl h
     go false e (inl l) again = absurd (omega (arith, l, leb-false (end_of c) d.at e))
     go false e (inr l) again = (a.0, again l)
 
-put_all : (P : Cut → Type 0) (c : Cut) (ds : List Cut) → P c → AllByRecursion P ds → AllByRecursion P (put_cut c ds)
+pub put_all : (P : Cut → Type 0) (c : Cut) (ds : List Cut) → P c → AllByRecursion P ds → AllByRecursion P (put_cut c ds)
 put_all P c [] p h = (p, tt)
 put_all P c (d ∷ ds) p h = go (leb (end_of c) d.at) (put_all P c ds p h.1)
   where
@@ -140,6 +142,10 @@ module _ (o : List ℕ) (bytes : IsBytes o) (s : Supported o) (how : How) where
   put_index : (P : Cut → Type 0) → ((x : Stood) → Among x (old_indexes (avi_of o)) → P (old_cut (table_of x))) → (xs : List Stood) → With xs → AllByRecursion P by → AllByRecursion P (put_cuts (map old_cut (map table_of xs)) by)
   put_index P h [] w b = b
   put_index P h (x ∷ xs) w b = put_all P (old_cut (table_of x)) (put_cuts (map old_cut (map table_of xs)) by) (h x (w x (inl refl))) (put_index P h xs (λ y j. w y (inr j)) b)
+
+  -- what holds of each table's span
+  pub all_tables : (P : Cut → Type 0) → ((t : Table) → Among t (indexes o) → P (index_cut t)) → ((x : Stood) → Among x (old_indexes (avi_of o)) → P (old_cut (table_of x))) → AllByRecursion P (table_cuts how o)
+  all_tables P h k = put_index P k (old_indexes (avi_of o)) (λ x i. i) (all_index P h)
 
   -- each of the cuts owns its range
   owned : AllByRecursion (Owned ws) (table_cuts how o)

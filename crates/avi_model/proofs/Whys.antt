@@ -1,36 +1,23 @@
 -- A file is supported exactly where no test of the reading order holds.
-use Rattle.std.proofs.Common.{◌≡◌, ℕ, suc, ◌+◌, ◌≤◌, Bool, true, false, cond, ltb, List, [], ◌∷◌, ◌++◌, length, drop, Some, None, refl, sym, ap, subst, ◌∙◌, arith}
+use Rattle.std.proofs.Common.{◌≡◌, ℕ, suc, ◌+◌, ◌≤◌, Bool, true, false, cond, ltb, List, [], ◌∷◌, ◌++◌, length, drop, refl, sym, ap, subst, ◌∙◌, arith}
 use Rattle.std.specs.Prelude.{◌&&◌, ◌||◌, not, codes}
 use Rattle.std.specs.List.{flat_map, AllByRecursion}
 use Rattle.std.proofs.lemmas.Bool.{ltb-false, le-ltb, leb-false, lt-leb}
-use Rattle.container_model.specs.Chunk.{Chunk, Stop, ends, bad_header, passes, out_of_turns, read, chunks, spell}
+use Rattle.container_model.specs.Chunk.{Chunk, Stop, ends, read, chunks, spell}
 use Rattle.container_model.specs.Stood.{Stood, bare, stood, only, first_of}
 use Rattle.carrier_model.specs.Info.{is_type, list_run}
 use Rattle.avi_model.specs.Avi.{forms, Avi, avi_of, form_of, kids, top, others_at, hdrls, strls, first_movi}
 use Rattle.avi_model.specs.Support.{infos, ListEnds, opened, count_kids, parts, part_limit, list_limit}
 use Rattle.avi_model.specs.Reading.{Step, form_at, part_at, end_at, list_end, part_of, flat_steps, stream_steps, hdrl_steps, inside_steps, is_info, top_steps, first_steps, further_steps, form_steps, parts_met}
-use Rattle.avi_model.specs.Why.{Test, first, ended, steps_tests}
+use Rattle.container_model.specs.Tests.{ended}
+use Rattle.container_model.proofs.Tests.{AllFalse, stop_ends}
+use Rattle.avi_model.specs.Why.{Test, steps_tests}
 use Rattle.avi_model.proofs.Among.{Among, all_among, among_all, among_flat, flat_among}
 use Rattle.avi_model.proofs.Levels.{type_one}
 use Rattle.avi_model.proofs.Sound.{all_left, all_right}
 use Rattle.avi_model.proofs.Lists.{all_both}
 
 -- ---- tests
-
-abbrev pub AllFalse : List Test → Type 0
-AllFalse ts = AllByRecursion (λ t. t.0 ≡ false) ts
-
-pub first_none : (ts : List Test) → first ts ≡ None → AllFalse ts
-first_none [] e = tt
-first_none (t ∷ ts) e = go t.0 refl e (first_none ts)
-  where
-    go : (b : Bool) → t.0 ≡ b → cond b (Some t.1) (first ts) ≡ None → (first ts ≡ None → AllFalse ts) → AllFalse (t ∷ ts)
-    go true i e again = absurd cc
-    go false i e again = (i, again e)
-
-pub none_first : (ts : List Test) → AllFalse ts → first ts ≡ None
-none_first [] h = refl
-none_first (t ∷ ts) h = rw h.0 (none_first ts h.1)
 
 pub flat_false : {X : Type 0} (g : X → List Test) (xs : List X) → AllFalse (flat_map g xs) → (x : X) → Among x xs → AllFalse (g x)
 flat_false g xs h x i = all_among (λ t. t.0 ≡ false) (g x) (λ t j. among_all (λ t. t.0 ≡ false) (flat_map g xs) h t (flat_among g xs x t i j))
@@ -55,12 +42,6 @@ guarded false false e i = absurd cc
 pub guard : (a b : Bool) → (a ≡ false → b ≡ true) → (not a && not b) ≡ false
 guard true b h = refl
 guard false b h = rw (h refl) refl
-
-stop_ends : (stop : Stop) → not (ended stop) ≡ false → stop ≡ ends
-stop_ends ends e = refl
-stop_ends bad_header e = absurd cc
-stop_ends passes e = absurd cc
-stop_ends out_of_turns e = absurd cc
 
 -- ---- the steps of reading
 

@@ -7,7 +7,8 @@ use Rattle.std.proofs.lemmas.Bool.{ne_eqb, cases_lt}
 use Rattle.std.proofs.lemmas.List.{take_at, drop_at}
 use Rattle.container_model.specs.Written.{slice, Write, written_byte, written, map_rows}
 use Rattle.container_model.proofs.Written.{covers_not, write_end}
-use Rattle.avi_model.specs.Index.{put32, put64, move, blank, is_super, width, used, entries, super_place, super_by, super_row, super_body, entry_offset, entry_length, entry_second, has_second, index_base, second_by, entry_by, entry_row, first_counted, standard_with, standard_by, index_by, index_body}
+use Rattle.container_model.specs.Tables.{put32, put64}
+use Rattle.opendml_index.specs.Index.{move, blank, is_super, width, used, entries, super_place, super_by, super_row, super_body, entry_offset, entry_length, entry_second, has_second, index_base, second_by, entry_by, entry_row, first_counted, standard_with, standard_by, index_by, index_body}
 use Rattle.avi_model.proofs.Numbers.{Whole, slice_put32, length-put32, length-put64, le32_put, le64_put, super_keeps, entry_keeps, super_front, standard_front, standard_entries, standard_is, super_is}
 use Rattle.avi_model.proofs.Blank.{written_twice, put32_twice, rows_twice}
 

@@ -1,20 +1,17 @@
--- What the new file is to the old one.
-use Rattle.std.specs.Prelude.{◌≡◌, ℕ, List, [], ◌∷◌, map, Option, option_map, if◌then◌else◌}
+-- The fields of an AVI file, and the new file after an edit of them.
+use Rattle.std.specs.Prelude.{ℕ, List, [], ◌∷◌, map, Option, option_map, if◌then◌else◌}
 use Rattle.std.specs.List.{flat_map}
-use Rattle.part_tree.specs.Names.{IsFieldName, info_ids}
+use Rattle.part_tree.specs.Names.{info_ids}
 use Rattle.part_tree.specs.declared.field.EditItem.{EditItem}
 use Rattle.part_tree.specs.declared.field.FieldName.{FieldName}
 use Rattle.part_tree.specs.declared.field.FieldName.TheVariants.{Info}
 use Rattle.part_tree.specs.declared.field.Value.{Value}
 use Rattle.field_model.specs.Fields.{FieldMap, plain}
-use Rattle.field_model.specs.Update.{RawItem, effective, raw_items, update}
+use Rattle.field_model.specs.Update.{RawItem, raw_items}
 use Rattle.carrier_model.specs.Lists.{list_values}
 use Rattle.carrier_model.specs.Info.{one_of, info, info_items}
 use Rattle.avi_model.specs.Avi.{avi_of}
-use Rattle.avi_model.specs.Pieces.{pieces}
-use Rattle.avi_model.specs.Support.{Supported}
 use Rattle.avi_model.specs.NewFile.{Items, edited_file}
-use Rattle.avi_model.specs.Kept.{kept, placed}
 
 -- the bodies of the INFO items of a name, over all lists of the first form
 abbrev pub info_values : List ℕ → List ℕ → List (List ℕ)
@@ -41,11 +38,3 @@ changes o e = info_edit (raw_items (fields o) e)
 -- the new file
 abbrev pub new_file : List ℕ → List EditItem → List ℕ
 new_file o e = edited_file o (changes o e)
-
--- It is supported; its fields are the old ones updated; all else is kept in order; its tables find the same bytes; and where no item has an effect it is the old file.
-pub record Edited (o : List ℕ) (e : List EditItem) (n : List ℕ) : Type 0 where
-  pub supported : Supported n
-  pub reads_back : (name : FieldName) → IsFieldName name → fields n name ≡ update (fields o) e name
-  pub kept_in_order : kept n ≡ placed (kept o) (changes o e)
-  pub same_pieces : pieces n ≡ pieces o
-  pub no_effect : effective (fields o) e ≡ [] → n ≡ o

@@ -5,7 +5,8 @@ use Rattle.container_model.specs.Chunk.{Chunk}
 use Rattle.carrier_model.specs.Lists.{Node, other, nodes_in, place_lists}
 use Rattle.carrier_model.specs.Info.{info, info_items, is_padding}
 use Rattle.avi_model.specs.Avi.{Avi, avi_of}
-use Rattle.avi_model.specs.Index.{blank, renumbered}
+use Rattle.opendml_index.specs.Index.{blank}
+use Rattle.avi_model.specs.Index.{renumbered}
 use Rattle.avi_model.specs.NewFile.{Items, home}
 
 -- Padding has no node. A list of fields has the marks of its fields, its other chunks and its rest; every other chunk its whole body.

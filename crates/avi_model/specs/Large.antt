@@ -4,26 +4,25 @@ use Rattle.std.specs.List.{flat_map}
 use Rattle.part_tree.specs.declared.field.EditItem.{EditItem}
 use Rattle.container_model.specs.Splice.{shift}
 use Rattle.container_model.specs.Stood.{Stood}
-use Rattle.carrier_model.specs.Large.{Size}
-use Rattle.avi_model.specs.Avi.{Avi, avi_of, inner, spell_avi}
-use Rattle.avi_model.specs.Index.{Table, move, renumbered, is_super, entries, entry_offset, entry_length, entry_second, has_second, index_base, first_counted, row_offset, row_length, Base, from_start, from_movi, base, old_rows, indexes, olds}
+use Rattle.part_tree.specs.Large.{Size, limited, is_above}
+use Rattle.container_model.specs.Tests.{first}
+use Rattle.avi_model.specs.Avi.{Avi, avi_of, inner}
+use Rattle.container_model.specs.Tables.{Table}
+use Rattle.opendml_index.specs.Index.{move, is_super, entries, entry_offset, entry_length, entry_second, has_second, index_base, first_counted}
+use Rattle.avi_model.specs.Index.{renumbered, base, indexes, olds}
+use Rattle.avi_index.specs.Rows.{row_offset, row_length, Base, from_start, from_movi, old_rows}
 use Rattle.avi_model.specs.Support.{infos, parts, part_limit, list_limit}
-use Rattle.avi_model.specs.Edited.{changes}
-use Rattle.avi_model.specs.NewFile.{Items, laid, edit_cuts}
+use Rattle.avi_model.specs.Edited.{changes, fields}
+use Rattle.field_model.specs.Update.{effective}
+use Rattle.avi_model.specs.NewFile.{Items, laid, edit_cuts, edited_file}
 
 -- a test, and what is told where it fails
-pub record Check : Type 0 where
-  pub fails : Bool
-  pub told : Size
-
--- the first test that fails
-abbrev pub first_failing : List Check → Option Size
-first_failing [] = None
-first_failing (c ∷ cs) = if c.fails then Some c.told else first_failing cs
+abbrev pub Check : Type 0
+Check = Bool × Size
 
 -- a size up to a limit
 abbrev pub at_most : ℕ → ℕ → Check
-at_most limit n = record { fails = nat_lt limit n; told = record { size = n; limit = limit } }
+at_most limit n = (is_above (limited limit n), limited limit n)
 
 -- the greatest number of 32 bits
 abbrev pub limit32 : ℕ
@@ -33,11 +32,11 @@ limit32 = 4294967295
 
 -- a place that is told as an offset from a base: not below the base, and of 32 bits
 abbrev pub offset_checks : ℕ → ℕ → List Check
-offset_checks base place = record { fails = nat_lt place base; told = record { size = place; limit = 0 } } ∷ record { fails = nat_lt limit32 (place - base); told = record { size = place; limit = limit32 } } ∷ []
+offset_checks base place = (nat_lt place base, limited 0 place) ∷ ((nat_lt limit32 (place - base), limited limit32 place) ∷ [])
 
 -- a second place is behind the base
 abbrev pub second_checks : ℕ → ℕ → List Check
-second_checks base place = record { fails = nat_le place base; told = record { size = place; limit = 0 } } ∷ record { fails = nat_lt limit32 (place - base); told = record { size = place; limit = limit32 } } ∷ []
+second_checks base place = (nat_le place base, limited 0 place) ∷ ((nat_lt limit32 (place - base), limited limit32 place) ∷ [])
 
 -- an entry of a standard index, if it is counted
 abbrev pub entry_checks : (ℕ → ℕ) → ℕ → ℕ → List ℕ → List Check
@@ -99,13 +98,13 @@ all_checks o e =
     map (λ (x : Stood). at_most list_limit (length x.chunk.body)) (infos n)
     ++ (at_most part_limit (parts n)
     ∷ (at_most limit32 (length (inner n.children n.left))
-    ∷ (flat_map (λ t. t.checks) (by_place (tables_placed (shift (edit_cuts (avi_of o) e)) o)) ++ at_most 9223372036854775807 (length (spell_avi n)) ∷ [])))
+    ∷ (flat_map (λ t. t.checks) (by_place (tables_placed (shift (edit_cuts (avi_of o) e)) o)) ++ at_most 9223372036854775807 (length (edited_file o e)) ∷ [])))
 
--- without an item nothing is
-abbrev pub too_large_by : List ℕ → Items → Option Size
-too_large_by o [] = None
-too_large_by o (i ∷ e) = first_failing (all_checks o (i ∷ e))
+-- without an item that has an effect nothing is
+abbrev pub too_large_by : List EditItem → List ℕ → Items → Option Size
+too_large_by [] o e = None
+too_large_by (i ∷ is) o e = first (all_checks o e)
 
 -- the first limit that an edit passes
 abbrev pub too_large : List ℕ → List EditItem → Option Size
-too_large o e = too_large_by o (changes o e)
+too_large o e = too_large_by (effective (fields o) e) o (changes o e)

@@ -10,3 +10,5 @@ pub mod Edited
 pub mod Large
 pub mod Map
 pub mod Room
+pub mod Kind
+pub mod Splices

@@ -5,13 +5,17 @@ use Rattle.part_tree.specs.declared.names.Span.{Span}
 use Rattle.part_tree.specs.declared.part.Part.{Part}
 use Rattle.part_tree.specs.declared.part.Role.{Role}
 use Rattle.part_tree.specs.declared.part.Role.TheVariants.{Opaque, Padding, Info, Tables, Essence}
-use Rattle.container_model.specs.Chunk.{Chunk, spell}
+use Rattle.part_tree.specs.Parts.{rest_parts}
+use Rattle.container_model.specs.Chunk.{Chunk, spell, spell_all}
 use Rattle.container_model.specs.Written.{slice}
 use Rattle.container_model.specs.Stood.{stood}
 use Rattle.carrier_model.specs.Info.{is_type, is_padding, list_run}
 use Rattle.avi_model.specs.Avi.{forms, avi_of, has_id, is_movi, essence, body_span, first_movi}
-use Rattle.avi_model.specs.Index.{Table, is_super, entries, entry_length, indexes, base, old_rows, olds}
-use Rattle.avi_model.specs.Pieces.{counted}
+use Rattle.container_model.specs.Tables.{Table, count_rows}
+use Rattle.opendml_index.specs.Index.{is_super, entries, entry_length}
+use Rattle.avi_model.specs.Index.{indexes, base, olds, spans}
+use Rattle.avi_index.specs.Rows.{old_rows}
+use Rattle.avi_index.specs.Found.{counted}
 
 -- ---- parts
 
@@ -33,6 +37,10 @@ plain_parts role at (c ∷ cs) = part (role c) at c ∷ plain_parts role (at + l
 abbrev pub kid_parts : (Chunk → Role) → ℕ → Chunk → List Part
 kid_parts role at c = plain_parts role (at + 12) (list_run c).chunks
 
+-- the rest of a list or a form
+abbrev pub list_rest : ℕ → Chunk → List Part
+list_rest at c = rest_parts (at + 12 + length (spell_all (list_run c).chunks)) (list_run c).left
+
 -- an item of a list of fields stands with its list
 abbrev pub item_role : Chunk → Role
 item_role c = Opaque
@@ -44,12 +52,12 @@ stream_role c = role_where (has_id (codes "indx") c) Tables
 -- in hdrl each strl is opened
 abbrev pub stream_parts : ℕ → List Chunk → List Part
 stream_parts at [] = []
-stream_parts at (c ∷ cs) = part Opaque at c ∷ ((if is_type (codes "strl") c then kid_parts stream_role at c else []) ++ stream_parts (at + length (spell c)) cs)
+stream_parts at (c ∷ cs) = part Opaque at c ∷ ((if is_type (codes "strl") c then kid_parts stream_role at c ++ list_rest at c else []) ++ stream_parts (at + length (spell c)) cs)
 
 -- in the first form the first hdrl is opened, and each list of fields
 abbrev pub inside_parts : Bool → Bool → ℕ → Chunk → List Part
-inside_parts true info at c = stream_parts (at + 12) (list_run c).chunks
-inside_parts false true at c = kid_parts item_role at c
+inside_parts true info at c = stream_parts (at + 12) (list_run c).chunks ++ list_rest at c
+inside_parts false true at c = kid_parts item_role at c ++ list_rest at c
 inside_parts false false at c = []
 
 -- a chunk of the first form: padding, fields, essence, the first `idx1`, or another
@@ -73,16 +81,16 @@ further_role c = role_where (is_movi c) Essence
 -- the chunks of further forms
 abbrev pub further_parts : ℕ → List Chunk → List Part
 further_parts at [] = []
-further_parts at (c ∷ cs) = kid_parts further_role at c ++ further_parts (at + length (spell c)) cs
+further_parts at (c ∷ cs) = kid_parts further_role at c ++ (list_rest at c ++ further_parts (at + length (spell c)) cs)
 
 -- the chunks of all forms
 abbrev pub form_parts : List Chunk → List Part
 form_parts [] = []
-form_parts (c ∷ cs) = top_parts false false 12 (list_run c).chunks ++ further_parts (length (spell c)) cs
+form_parts (c ∷ cs) = top_parts false false 12 (list_run c).chunks ++ (list_rest 0 c ++ further_parts (length (spell c)) cs)
 
--- the parts of a file, in the order of reading
+-- the parts of a file, in the order of reading; the tail is the last one
 abbrev pub parts_of : List ℕ → List Part
-parts_of b = form_parts (forms b).chunks
+parts_of b = form_parts (forms b).chunks ++ rest_parts (length (spell_all (forms b).chunks)) (forms b).left
 
 -- ---- forms, essence and tables
 
@@ -107,10 +115,6 @@ behind_words (s ∷ ss) = (s.len - 4) + behind_words ss
 abbrev pub essence_bytes : List ℕ → ℕ
 essence_bytes b = behind_words (essence_spans b)
 
--- where the body of a table stands
-abbrev pub table_span : Table → Span
-table_span t = record { at = t.at; len = length t.body }
-
 -- the super indexes of the streams
 abbrev pub supers : List ℕ → List Table
 supers b = filter (λ t. is_super t.body) (indexes b)
@@ -120,10 +124,6 @@ abbrev pub standards : List ℕ → List Table
 standards b = filter (λ t. not (is_super t.body)) (indexes b)
 
 -- ---- how many entries are counted
-
--- rows that meet a test
-abbrev pub count_rows : (List ℕ → Bool) → List (List ℕ) → ℕ
-count_rows test rs = length (filter test rs)
 
 -- the entries of idx1, if there is one
 abbrev pub count_olds : (List ℕ → Bool) → List Table → ℕ
@@ -137,4 +137,4 @@ count_standards (t ∷ ts) = count_rows (λ r. not (entry_length r == 0)) (entri
 
 -- the counted entries of idx1 and of all standard indexes together
 abbrev pub counted_entries : List ℕ → ℕ
-counted_entries b = count_olds (counted (base b) (first_movi (avi_of b)) (indexes b)) (olds b) + count_standards (standards b)
+counted_entries b = count_olds (counted (base b) (first_movi (avi_of b)) (spans (indexes b))) (olds b) + count_standards (standards b)

@@ -1,9 +1,13 @@
 -- What the tables of a file find: the chunks that idx1 names, and the index chunks and bytes that OpenDML indexes name.
-use Rattle.std.specs.Prelude.{ℕ, ◌+◌, ◌-◌, ◌==◌, List, map, Bool, true, false, not, ◌&&◌, ◌||◌, Option, Some, None}
+use Rattle.std.specs.Prelude.{ℕ, ◌+◌, ◌-◌, ◌==◌, List, map, Bool, true, false, Option, Some, None}
 use Rattle.container_model.specs.Written.{slice}
 use Rattle.part_tree.specs.declared.names.Span.{Span}
 use Rattle.avi_model.specs.Avi.{avi_of, first_movi}
-use Rattle.avi_model.specs.Index.{le32_at, Table, is_super, entries, super_place, entry_offset, entry_length, entry_second, has_second, index_base, indexes, row_id, row_flags, row_offset, row_length, Base, from_start, from_movi, row_place, base, old_rows, olds, within, is_head, misses, ordinal}
+use Rattle.container_model.specs.Tables.{le32_at, Table, ordinal}
+use Rattle.opendml_index.specs.Index.{is_super, entries, super_place, entry_offset, entry_length, entry_second, has_second, index_base}
+use Rattle.avi_model.specs.Index.{indexes, base, olds, is_head, spans}
+use Rattle.avi_index.specs.Found.{counted}
+use Rattle.avi_index.specs.Rows.{row_id, row_flags, row_length, Base, row_place, old_rows}
 
 -- what an entry of idx1 finds: nothing where it is not counted; its identifier, its flags, and an index chunk by its number, or its bytes
 pub data Found : Type 0 where
@@ -21,16 +25,9 @@ abbrev pub counted_by : List ℕ → List Table → List ℕ → ℕ → Bool �
 counted_by b ts r p true = found_by b ts r p (is_head ts p)
 counted_by b ts r p false = nothing
 
--- With base from_start each entry that has bytes is counted.
-abbrev pub counted : Base → Span → List Table → List ℕ → Bool
-counted from_start movi ts r = not (row_length r == 0)
-counted from_movi movi ts r =
-    let p = movi.at + row_offset r in
-    not (row_length r == 0) && (within movi p (8 + row_length r) && (is_head ts p || misses ts (p + 8) (row_length r)))
-
 -- what an entry of idx1 finds
 abbrev pub old_found : List ℕ → Base → Span → List Table → List ℕ → Found
-old_found b base movi ts r = counted_by b ts r (row_place base movi.at r) (counted base movi ts r)
+old_found b base movi ts r = counted_by b ts r (row_place base movi.at r) (counted base movi (spans ts) r)
 
 -- what a super entry finds: its size, its duration, and which index chunk
 pub data Super : Type 0 where

@@ -1,16 +1,21 @@
 -- Which AVI files are supported: every list that is opened is whole, and every index entry names bytes of the essence
 -- (this project's own, over RIFF and OpenDML 1.02).
-use Rattle.std.specs.Prelude.{◌≡◌, ℕ, ◌+◌, ◌*◌, ◌<◌, ◌≤◌, ◌==◌, nat_le, nat_lt, List, [], ◌∷◌, ◌++◌, length, map, take, drop, Bool, true, false, ◌&&◌, ◌||◌, not, codes, if◌then◌else◌}
+use Rattle.std.specs.Prelude.{◌≡◌, ℕ, ◌+◌, ◌<◌, ◌≤◌, ◌==◌, nat_le, nat_lt, List, [], ◌∷◌, ◌++◌, length, map, take, drop, Bool, true, false, ◌&&◌, ◌||◌, codes, if◌then◌else◌}
 use Rattle.std.specs.Str.{bytes_eq}
 use Rattle.std.specs.List.{AllByRecursion}
-use Rattle.std.specs.Int.{w32, from_le_bytes}
+use Rattle.part_tree.specs.declared.names.Span.{Span}
+use Rattle.part_tree.specs.Ranges.{within, in_one}
 use Rattle.container_model.specs.Chunk.{ends}
 use Rattle.container_model.specs.Stood.{Stood, only}
-use Rattle.container_model.specs.Written.{slice}
+use Rattle.container_model.specs.Tables.{Table, named, size_at}
 use Rattle.carrier_model.specs.Info.{is_type, list_run}
-use Rattle.part_tree.specs.declared.names.Span.{Span}
+use Rattle.avi_index.specs.Rows.{row_offset, row_length, Base, from_start, from_movi, old_rows}
+use Rattle.avi_index.specs.Found.{is_based}
+use Rattle.opendml_index.specs.Index.{is_super, entries, super_places, entry_offset, entry_length, index_base}
+use Rattle.opendml_index.specs.Kinds.{SoundIndex, is_index_kind, is_standard_kind}
+use Rattle.opendml_index.specs.Checks.{entry_lies as lies_in}
 use Rattle.avi_model.specs.Avi.{forms, Avi, avi_of, top, others_at, hdrls, strls, is_movi, essence, body_span, first_movi}
-use Rattle.avi_model.specs.Index.{Table, is_super, width, used, entries, super_places, streams, named, indexes, entry_offset, entry_length, entry_second, has_second, index_base, row_id, row_offset, row_length, decides, Base, from_start, from_movi, base, old_rows, olds, within, is_head, misses}
+use Rattle.avi_model.specs.Index.{streams, indexes, spans, base, olds, is_head, misses}
 
 -- ---- chunks
 
@@ -53,48 +58,9 @@ list_limit = 16777216
 
 -- ---- index chunks (OpenDML AVI File Format Extensions 1.02, AVISUPERINDEX and AVISTDINDEX)
 
--- the longs of an entry, the subtype and the type
-abbrev pub kind : List ℕ → List ℕ
-kind body = slice body 0 4
-
--- a super index
-abbrev pub is_super_kind : List ℕ → Bool
-is_super_kind body = bytes_eq (kind body) (4 ∷ 0 ∷ 0 ∷ 0 ∷ []) || bytes_eq (kind body) (4 ∷ 0 ∷ 1 ∷ 0 ∷ [])
-
--- a standard index with one or with two fields
-abbrev pub is_standard_kind : List ℕ → Bool
-is_standard_kind body = bytes_eq (kind body) (2 ∷ 0 ∷ 0 ∷ 1 ∷ []) || bytes_eq (kind body) (3 ∷ 0 ∷ 1 ∷ 1 ∷ [])
-
--- an index chunk that is known
-abbrev pub is_index_kind : List ℕ → Bool
-is_index_kind body = is_super_kind body || is_standard_kind body
-
--- the 24 bytes before the entries are there
-abbrev pub has_header : List ℕ → Bool
-has_header body = nat_le 24 (length body)
-
--- the entries in use are there
-abbrev pub has_entries : List ℕ → Bool
-has_entries body = nat_le (24 + width body * used body) (length body)
-
--- the body of an index chunk: its header is there, it is of a kind, and its entries are there
-pub record SoundIndex (of_kind : List ℕ → Bool) (body : List ℕ) : Type 0 where
-  pub header_is_there : has_header body ≡ true
-  pub kind_is : of_kind body ≡ true
-  pub entries_are_there : has_entries body ≡ true
-
--- a range lies inside one of these
-abbrev pub in_one : List Span → ℕ → ℕ → Bool
-in_one [] p n = false
-in_one (s ∷ ss) p n = within s p n || in_one ss p n
-
 -- the bodies of the movi lists
 abbrev pub movi_spans : Avi → List Span
 movi_spans a = map body_span (essence a)
-
--- the size field of the chunk at a place
-abbrev pub size_at : List ℕ → ℕ → ℕ
-size_at b p = from_le_bytes w32 (slice b (p + 4) 4)
 
 -- a place that a super entry names: a standard index stands there, whole inside one movi body
 pub record SoundPlace (b : List ℕ) (p : ℕ) : Type 0 where
@@ -120,13 +86,9 @@ Apart from (t ∷ ts) = (nat_lt t.at (from + 8) ≡ false) × Apart (t.at + leng
 
 -- ---- entries
 
--- a second place is at or behind the entry's and before its end
-abbrev pub second_lies : List ℕ → Bool
-second_lies r = not (has_second r) || (nat_le (entry_offset r) (entry_second r) && nat_lt (entry_second r) (entry_offset r + entry_length r))
-
 -- an entry's bytes lie inside one movi, and its second place inside the entry
 abbrev pub entry_lies : Avi → ℕ → List ℕ → Bool
-entry_lies a base r = in_one (movi_spans a) (base + entry_offset r) (entry_length r) && second_lies r
+entry_lies a base r = lies_in (movi_spans a) base r
 
 -- a standard entry that is counted
 pub record SoundEntry (b : List ℕ) (base : ℕ) (r : List ℕ) : Type 0 where
@@ -138,20 +100,6 @@ abbrev pub SoundEntries : List ℕ → Table → Type 0
 SoundEntries b t = AllByRecursion (λ r. (entry_length r == 0) ≡ false → SoundEntry b (index_base t.body) r) (entries t.body)
 
 -- ---- idx1
-
--- an entry's identifier stands at a place, as that of an index chunk or outside them
-abbrev pub stands_at : List ℕ → List Table → List ℕ → ℕ → Bool
-stands_at b ts r p = bytes_eq (slice b p 4) (row_id r) && (is_head ts p || misses ts p 4)
-
--- by whether the offset is below the place of movi
-abbrev pub based_by : List ℕ → List Table → Span → List ℕ → Bool → Bool
-based_by b ts movi r true = within movi (movi.at + row_offset r) 4 && stands_at b ts r (movi.at + row_offset r)
-based_by b ts movi r false = stands_at b ts r (row_offset r)
-
--- the first entry that has bytes and is no list has the base that its offset says
-abbrev pub is_based : List ℕ → List Table → Span → List (List ℕ) → Bool
-is_based b ts movi [] = true
-is_based b ts movi (r ∷ rs) = if decides r then based_by b ts movi r (nat_lt (row_offset r) movi.at) else is_based b ts movi rs
 
 -- an entry from the file's start that has bytes lies inside the first movi, and its bytes in no index chunk
 pub record SoundRow (movi : Span) (ts : List Table) (r : List ℕ) : Type 0 where
@@ -181,5 +129,5 @@ pub record Supported (b : List ℕ) : Type 0 where
   pub few_indexes : length (indexes b) ≤ part_limit
   pub indexes_apart : Apart 0 (by_place (indexes b))
   pub entries_sound : AllByRecursion (λ t. is_super t.body ≡ false → SoundEntries b t) (indexes b)
-  pub based : AllByRecursion (λ t. is_based b (indexes b) (first_movi (avi_of b)) (old_rows t.body) ≡ true) (olds b)
+  pub based : AllByRecursion (λ t. is_based b (spans (indexes b)) (first_movi (avi_of b)) (old_rows t.body) ≡ true) (olds b)
   pub rows_sound : AllByRecursion (SoundRows (base b) (first_movi (avi_of b)) (indexes b)) (olds b)

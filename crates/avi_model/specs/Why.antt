@@ -1,31 +1,34 @@
 -- Why an AVI file is refused: the first test that holds, in the order of reading.
-use Rattle.std.specs.Prelude.{ℕ, suc, ◌+◌, ◌-◌, ◌==◌, nat_le, nat_lt, List, [], ◌∷◌, ◌++◌, length, Bool, true, false, ◌&&◌, ◌||◌, not, Option, Some, None, if◌then◌else◌}
+use Rattle.std.specs.Prelude.{ℕ, ◌+◌, ◌-◌, ◌==◌, nat_le, nat_lt, List, [], ◌∷◌, ◌++◌, length, map, Bool, ◌&&◌, not, Option, if◌then◌else◌}
 use Rattle.std.specs.List.{flat_map}
 use Rattle.part_tree.specs.Letters.{four}
-use Rattle.part_tree.specs.declared.why.Why.{Why}
-use Rattle.part_tree.specs.declared.why.Why.TheVariants.{CarrierBig, IndexAstray, IndexBase, IndexKind, IndexOverlap, IndexPlace, IndexShort, NoHdrl, NoMovi, TooManyParts, Truncated, UnknownKind}
-use Rattle.container_model.specs.Chunk.{Stop, ends}
 use Rattle.part_tree.specs.declared.names.Span.{Span}
+use Rattle.part_tree.specs.Ranges.{in_one}
+use Rattle.part_tree.specs.declared.index.IndexFault.{IndexFault}
+use Rattle.part_tree.specs.declared.index.IndexFault.TheVariants.{NoBase, Astray, Overlap, Depot}
+use Rattle.part_tree.specs.declared.why.Why.{Why}
+use Rattle.part_tree.specs.declared.why.Why.TheVariants.{CarrierBig, IndexAstray, IndexBase, IndexKind, IndexOverlap, IndexPlace, IndexShort, NoHdrl, NoMovi, NotBuilt, TooManyParts, Truncated, UnknownKind}
+use Rattle.container_model.specs.Tables.{Table, named, size_at}
+use Rattle.container_model.specs.Tests.{first, ended}
+use Rattle.avi_index.specs.Rows.{Base, old_rows}
+use Rattle.avi_index.specs.Found.{is_based}
+use Rattle.avi_index.specs.Checks.{old_tests as rows_tested}
+use Rattle.opendml_index.specs.Index.{is_super, entries, super_places, index_base}
+use Rattle.opendml_index.specs.Kinds.{is_index_kind, is_standard_kind}
+use Rattle.opendml_index.specs.Heads.{head_tests}
+use Rattle.opendml_index.specs.Checks.{entries_tests}
+use Rattle.opendml_index.specs.declared.head.HeadFault.{HeadFault}
+use Rattle.opendml_index.specs.declared.head.HeadFault.TheVariants.{Short, Wrong}
 use Rattle.avi_model.specs.Avi.{Avi, avi_of, first_movi, hdrls}
-use Rattle.avi_model.specs.Index.{Table, is_super, entries, super_places, streams, named, indexes, entry_offset, entry_length, index_base, row_offset, row_length, Base, from_start, from_movi, base, old_rows, olds, within, is_head, misses}
-use Rattle.avi_model.specs.Support.{begins, movis, part_limit, list_limit, is_index_kind, is_standard_kind, has_header, has_entries, in_one, movi_spans, size_at, by_place, entry_lies, is_based}
+use Rattle.avi_model.specs.Index.{streams, indexes, spans, base, olds}
+use Rattle.avi_model.specs.Support.{begins, movis, part_limit, list_limit, movi_spans, by_place}
 use Rattle.avi_model.specs.Reading.{Step, form_at, part_at, end_at, reading, parts_met}
 
 -- a test, and why a file is refused where it holds
 abbrev pub Test : Type 0
 Test = Bool × Why
 
--- the first test that holds
-abbrev pub first : List Test → Option Why
-first [] = None
-first (t ∷ ts) = if t.0 then Some t.1 else first ts
-
 -- ---- chunks
-
--- chunks that end where their parent does
-abbrev pub ended : Stop → Bool
-ended ends = true
-ended stop = false
 
 -- the tests of a step, where so many chunks were met before it
 abbrev pub step_tests : ℕ → Step → List Test
@@ -44,9 +47,18 @@ list_tests a = (length (hdrls a) == 0, NoHdrl) ∷ (length (movis a) == 0, NoMov
 
 -- ---- index chunks; each is told by the place of its header
 
+-- why a file is refused for a fault of the index chunk at a place
+abbrev pub head_why : ℕ → HeadFault → Why
+head_why at Short = IndexShort at
+head_why at Wrong = IndexKind at
+
+-- the tests of an index chunk, each with the refusal for it
+abbrev pub head_refusals : ℕ → List (Bool × HeadFault) → List Test
+head_refusals at ts = map (λ t. (t.0, head_why at t.1)) ts
+
 -- the header, the kind and the entries of an index chunk
 abbrev pub sound_tests : (List ℕ → Bool) → ℕ → List ℕ → List Test
-sound_tests of_kind at body = (not (has_header body), IndexShort at) ∷ (not (of_kind body), IndexKind at) ∷ (not (has_entries body), IndexShort at) ∷ []
+sound_tests of_kind at body = head_refusals at (head_tests of_kind body)
 
 -- a place that a super entry names
 abbrev pub place_tests : List ℕ → ℕ → List Test
@@ -67,34 +79,28 @@ overlap_tests from (t ∷ ts) = (nat_lt t.at (from + 8), IndexOverlap (head_of t
 
 -- ---- entries, from 0
 
--- the entries of a standard index
-abbrev pub entry_tests : List ℕ → ℕ → ℕ → ℕ → List (List ℕ) → List Test
-entry_tests b at base k [] = []
-entry_tests b at base k (r ∷ rs) =
-    (not (entry_length r == 0) && not (entry_lies (avi_of b) base r), IndexAstray at k)
-    ∷ ((not (entry_length r == 0) && not (misses (indexes b) (base + entry_offset r) (entry_length r)), IndexOverlap at)
-    ∷ entry_tests b at base (suc k) rs)
+-- why a file is refused for a fault of an entry of the index at a place
+abbrev pub entry_why : ℕ → IndexFault → Why
+entry_why at NoBase = IndexBase
+entry_why at (Astray k) = IndexAstray at k
+entry_why at (Overlap k) = IndexOverlap at
+entry_why at Depot = NotBuilt
+
+-- the tests of entries, each with the refusal for it
+abbrev pub refusals : ℕ → List (Bool × IndexFault) → List Test
+refusals at ts = map (λ t. (t.0, entry_why at t.1)) ts
 
 -- a standard index
 abbrev pub standard_tests : List ℕ → Table → List Test
-standard_tests b t = if is_super t.body then [] else entry_tests b (head_of t) (index_base t.body) 0 (entries t.body)
+standard_tests b t = if is_super t.body then [] else refusals (head_of t) (entries_tests (movi_spans (avi_of b)) (spans (indexes b)) (index_base t.body) 0 (entries t.body))
 
 -- the base of idx1
 abbrev pub base_tests : List ℕ → Table → List Test
-base_tests b t = (not (is_based b (indexes b) (first_movi (avi_of b)) (old_rows t.body)), IndexBase) ∷ []
-
--- the entries of idx1
-abbrev pub row_tests : Span → List Table → ℕ → ℕ → List (List ℕ) → List Test
-row_tests movi ts at k [] = []
-row_tests movi ts at k (r ∷ rs) =
-    (not (row_length r == 0) && not (within movi (row_offset r) (8 + row_length r)), IndexAstray at k)
-    ∷ ((not (row_length r == 0) && not (is_head ts (row_offset r) || misses ts (row_offset r + 8) (row_length r)), IndexOverlap at)
-    ∷ row_tests movi ts at (suc k) rs)
+base_tests b t = (not (is_based b (spans (indexes b)) (first_movi (avi_of b)) (old_rows t.body)), IndexBase) ∷ []
 
 -- only entries that count from the start of the file are tested
 abbrev pub old_tests : Base → Span → List Table → Table → List Test
-old_tests from_movi movi ts t = []
-old_tests from_start movi ts t = row_tests movi ts (head_of t) 0 (old_rows t.body)
+old_tests base movi ts t = refusals (head_of t) (rows_tested base movi (spans ts) 0 (old_rows t.body))
 
 -- ---- a file
 

@@ -3,32 +3,40 @@
 //! 1.0) and of AVI, the indexes those of OpenDML (AVI File Format Extensions 1.02). It knows no device and no code.
 #![tactic(auto)]
 
-ghost use Rattle.std.specs.Prelude.{◌≡◌, ◌≤◌, ◌-◌, ◌^◌, ◌⊎◌, ℕ, List, [], length, map, take, drop, None};
-ghost use Rattle.container_model.specs.Splice.{splice, Ascend};
+ghost use Rattle.std.specs.Prelude.{◌≡◌, ◌<◌, ◌≤◌, ◌-◌, ◌^◌, ◌⊎◌, ◌++◌, ℕ, Bool, List, [], length, map, take, None};
 ghost use Rattle.me_bytes.specs.Bytes.{IsBytes};
 ghost use Rattle.part_tree.specs.declared.field.EditItem.{EditItem};
-ghost use Rattle.part_tree.specs.declared.field.RuleSet.TheVariants.{Base};
-ghost use Rattle.part_tree.specs.declared.names.Kind.TheVariants.{Avi};
-ghost use Rattle.field_model.specs.Broken.{broken};
-ghost use Rattle.part_tree.specs.Patches.{laid};
-ghost use Rattle.carrier_model.specs.Order.{SoundPatches};
-ghost use Rattle.avi_model.specs.Avi.{avi_of, inner, essence};
-ghost use Rattle.avi_model.specs.Index.{olds, move, renumbered};
-ghost use Rattle.avi_model.specs.Support.{Supported, parts};
+ghost use Rattle.part_tree.specs.Parts.{count_parts};
+ghost use Rattle.container_model.specs.Chunk.{and_then, behind, Chunk, chunk_of, chunks, ends, Form, full_header, joined, passes, stopped, too_short};
+ghost use Rattle.carrier_model.specs.Info.{list_run};
+ghost use Rattle.avi_model.specs.Avi.{avi_front, avi_of, essence, forms, inner};
+ghost use Rattle.part_tree.specs.declared.names.Span.{Span};
+ghost use Rattle.part_tree.specs.Ranges.{Ascends};
+ghost use Rattle.container_model.specs.Tables.{Table};
+ghost use Rattle.avi_index.specs.Checks.{old_tests};
+ghost use Rattle.avi_index.specs.Found.{counted, is_based};
+ghost use Rattle.avi_index.specs.Rows.{Base};
+ghost use Rattle.opendml_index.specs.Checks.{entries_tests};
+ghost use Rattle.avi_model.specs.Index.{indexes, olds, renumbered, spans, table_span};
+ghost use Rattle.opendml_index.specs.Index.{move};
+ghost use Rattle.avi_model.specs.Support.{by_place, parts, Supported};
 ghost use Rattle.avi_model.specs.Why.{why};
-ghost use Rattle.avi_model.specs.NewFile.{Items, edit_cuts, with_size, moves, laid_file, table_cuts};
-ghost use Rattle.avi_model.specs.Edited.{Edited, changes, fields, new_file};
+ghost use Rattle.avi_model.specs.NewFile.{moves};
+ghost use Rattle.avi_model.specs.Splices.{IsOneSplice};
+ghost use Rattle.field_model.specs.Kind.{IsKind};
+ghost use Rattle.field_model.specs.Update.{effective};
+ghost use Rattle.avi_model.specs.Edited.{changes, fields, new_file};
+ghost use Rattle.avi_model.specs.Kind.{avi_kind};
 ghost use Rattle.avi_model.specs.Large.{too_large, new_avi};
-ghost use Rattle.avi_model.specs.Room.{Room, patches};
-ghost use Rattle.avi_model.specs.Map.{parts_of, bytes_in, essence_spans, table_span, supers, standards};
+ghost use Rattle.avi_model.specs.Room.{Room};
+ghost use Rattle.avi_model.specs.Map.{parts_of, bytes_in, essence_spans, supers, standards};
 
 use part_tree as _;
 
-/// For every supported AVI file and every edit of fields that keeps the rules of Base, and after which nothing is too
-/// large, the new file is the old one edited. It holds for both bases of `idx1`, and for OpenDML indexes in any number of
-/// forms.
-pub fn new_is_edited()
-    ensures { (o : List ℕ) (e : List EditItem) → IsBytes o → Supported o → broken Avi (fields o) e Base ≡ None → too_large o e ≡ None → Edited o e (new_file o e) }
+/// AVI files have the laws of a kind of files, for both bases of `idx1`, and for OpenDML indexes in any number of forms: an
+/// accepted edit that isn't too large makes the old file edited, in place where it has room.
+pub fn avi_files_are_a_kind()
+    ensures { IsKind avi_kind }
 {}
 
 /// An AVI file is supported exactly where no test of the reading order holds.
@@ -36,38 +44,53 @@ pub fn refusals_are_exact()
     ensures { (b : List ℕ) → (why b ≡ None → Supported b) × (Supported b → why b ≡ None) }
 {}
 
-/// The new file is the old one with the numbers of its tables moved in their places, then the slots of units and the
-/// form's pad replaced, then the form's size set. The tables are whole bodies that are replaced. Both the spans of the
-/// tables and the spans of the edit ascend and lie in the old file.
-pub fn new_is_spliced()
-    ensures spliced { (o : List ℕ) (e : Items) → IsBytes o → Supported o
-        → laid_file o e ≡ with_size (length (inner (new_avi o e).children (new_avi o e).left)) (splice (renumbered (move (moves o e)) o) (edit_cuts (avi_of o) e)) }
-    ensures ascend { (o : List ℕ) (e : Items) → IsBytes o → Supported o → Ascend 0 (edit_cuts (avi_of o) e) (length o) }
-    ensures tables { (o : List ℕ) (e : Items) → IsBytes o → Supported o → renumbered (move (moves o e)) o ≡ splice o (table_cuts (move (moves o e)) o) }
-    ensures tables_ascend { (o : List ℕ) (e : Items) → IsBytes o → Supported o → Ascend 0 (table_cuts (move (moves o e)) o) (length o) }
+/// Where lists change and nothing is too large, the new file is the old one with the spans of one list replaced: the form's
+/// size, the bodies of tables with their numbers moved, the slots of units and the form's pad. The spans ascend, are disjoint
+/// and lie in the old file, and the ranges between them put each place where the tables' numbers are moved.
+pub fn new_is_one_splice()
+    ensures { (o : List ℕ) (e : List EditItem) → IsBytes o → Supported o → too_large o e ≡ None → (changes o e ≡ []) ⊎ IsOneSplice o (changes o e) (new_file o e) }
 {}
 
-/// Where an edit has room, no number of a table changes, and its patches, laid over the old file at the new file's length,
-/// make the new file. They are in order, lie in the new file, have at most 16 MiB, and cover what the file gains.
-pub fn patches_make_new()
-    ensures stay { (o : List ℕ) (e : List EditItem) → IsBytes o → Supported o → Room o e → renumbered (move (moves o (changes o e))) o ≡ o }
-    ensures made { (o : List ℕ) (e : List EditItem) → IsBytes o → Supported o → Room o e → new_file o e ≡ laid (length (new_file o e)) (patches o e) o }
-    ensures sound { (o : List ℕ) (e : List EditItem) → IsBytes o → Supported o → Room o e → SoundPatches (length o) (length (new_file o e)) (patches o e) }
+/// Where an edit has room, no number of a table changes.
+pub fn numbers_stay_in_place()
+    ensures { (o : List ℕ) (e : List EditItem) → IsBytes o → Supported o → Room o e → renumbered (move (moves o (changes o e))) o ≡ o }
 {}
 
-/// Where something is edited and nothing is too large, the new file has at most 2^63-1 bytes, and the body of its first
-/// form at most 2^32-1.
-pub fn new_is_no_larger()
+/// Where nothing is too large, the body of the new file's first form has at most 2^32-1 bytes.
+pub fn new_form_is_no_larger()
     ensures { (o : List ℕ) (e : List EditItem) → too_large o e ≡ None
-        → (changes o e ≡ []) ⊎ ((length (new_file o e) ≤ 2 ^ 63 - 1) × (length (inner (new_avi o (changes o e)).children (new_avi o (changes o e)).left) ≤ 2 ^ 32 - 1)) }
+        → (effective (fields o) e ≡ []) ⊎ (length (inner (new_avi o (changes o e)).children (new_avi o (changes o e)).left) ≤ 2 ^ 32 - 1) }
 {}
 
-/// A reader tells as many parts of a file as are counted, and the spans of its essence, of its super indexes, of its
+/// A reader tells as many parts of a file, its rests and its tail apart, as are counted, and the spans of its essence, of its super indexes, of its
 /// standard indexes and of `idx1` hold their bodies.
 pub fn what_is_told()
-    ensures parts { (b : List ℕ) → length (parts_of b) ≡ parts (avi_of b) }
+    ensures parts { (b : List ℕ) → count_parts (parts_of b) ≡ parts (avi_of b) }
     ensures essence { (b : List ℕ) → IsBytes b → Supported b → map (bytes_in b) (essence_spans b) ≡ map (λ x. x.chunk.body) (essence (avi_of b)) }
     ensures supers { (b : List ℕ) → IsBytes b → Supported b → map (bytes_in b) (map table_span (supers b)) ≡ map (λ t. t.body) (supers b) }
     ensures standards { (b : List ℕ) → IsBytes b → Supported b → map (bytes_in b) (map table_span (standards b)) ≡ map (λ t. t.body) (standards b) }
     ensures olds { (b : List ℕ) → IsBytes b → Supported b → map (bytes_in b) (map table_span (olds b)) ≡ map (λ t. t.body) (olds b) }
+{}
+
+/// What is read of any bytes spells them, also where the reading stops at a refusal: the forms with what is left of the file,
+/// and the chunks of a list or a form with what is left of it. The forms are read one after the other: where one stands
+/// whole it is read before those behind it, and else the reading stops there.
+pub fn forms_are_read_in_turn()
+    ensures forms { (b : List ℕ) → IsBytes b → joined (forms b) ≡ b }
+    ensures lists { (c : Chunk) → IsBytes c.body → take 4 c.body ++ joined (list_run c) ≡ c.body }
+    ensures next { (s next : Bool) (b : List ℕ) (form : Form) (id : List ℕ) (n : ℕ) (after : List ℕ) → avi_front s b ≡ full_header form id n after next → n ≤ length after
+        → chunks avi_front s b ≡ and_then (chunk_of form id n after) (chunks avi_front next (behind form n after)) }
+    ensures last { (s : Bool) (b : List ℕ) → avi_front s b ≡ too_short → chunks avi_front s b ≡ stopped ends b }
+    ensures cut { (s next : Bool) (b : List ℕ) (form : Form) (id : List ℕ) (n : ℕ) (after : List ℕ) → avi_front s b ≡ full_header form id n after next → length after < n
+        → chunks avi_front s b ≡ stopped passes b }
+{}
+
+/// What is tested of the entries of tables, and which are counted, is the same for the index chunks in any order, so for those
+/// by place. In a supported file these ascend.
+pub fn indexes_are_searched_by_place()
+    ensures rows { (base : Base) (movi : Span) (ts : List Table) (k : ℕ) (rs : List (List ℕ)) → old_tests base movi (spans (by_place ts)) k rs ≡ old_tests base movi (spans ts) k rs }
+    ensures entries { (movis : List Span) (ts : List Table) (base k : ℕ) (rs : List (List ℕ)) → entries_tests movis (spans (by_place ts)) base k rs ≡ entries_tests movis (spans ts) base k rs }
+    ensures based { (b : List ℕ) (ts : List Table) (movi : Span) (rs : List (List ℕ)) → is_based b (spans (by_place ts)) movi rs ≡ is_based b (spans ts) movi rs }
+    ensures counted { (base : Base) (movi : Span) (ts : List Table) (r : List ℕ) → counted base movi (spans (by_place ts)) r ≡ counted base movi (spans ts) r }
+    ensures ascend { (b : List ℕ) → Supported b → Ascends 0 (spans (by_place (indexes b))) }
 {}

@@ -23,7 +23,8 @@ use Rattle.riff_form.specs.Walk.{chunk_in, row}
 use Rattle.container_model.specs.Stood.{stood}
 use Rattle.avi_model.specs.Map.{part, plain_parts}
 use Rattle.avi_model.specs.Reading.{Step, part_at, end_at, part_of}
-use Rattle.avi_model.specs.Why.{first, step_tests, steps_tests}
+use Rattle.container_model.specs.Tests.{first}
+use Rattle.avi_model.specs.Why.{step_tests, steps_tests}
 use Rattle.avi_walk.specs.declared.list.Reading.{Reading}
 use Rattle.avi_walk.specs.Walk.{chunk_step, run_steps, Took, Takes, Read, ReadsRun}
 

@@ -9,7 +9,8 @@ use Rattle.container_model.specs.Chunk.{Chunk, Run, spell, spell_all}
 use Rattle.container_model.specs.Stood.{stood, bare}
 use Rattle.avi_model.specs.Map.{item_role, stream_role, further_role, part, plain_parts}
 use Rattle.avi_model.specs.Reading.{Step, part_at, end_at, part_of}
-use Rattle.avi_model.specs.Why.{first, step_tests, steps_tests}
+use Rattle.container_model.specs.Tests.{first}
+use Rattle.avi_model.specs.Why.{step_tests, steps_tests}
 use Rattle.avi_walk.specs.declared.kind.Inside.{Inside}
 use Rattle.avi_walk.specs.declared.kind.Inside.TheVariants.{Items, Stream, Further}
 use Rattle.avi_walk.specs.declared.list.Reading.{Reading}

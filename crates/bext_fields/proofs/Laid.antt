@@ -3,7 +3,7 @@ use Rattle.std.proofs.Common.{◌≡◌, ℕ, ◌<◌, ◌≤◌, ◌+◌, List,
 use Rattle.std.specs.Prelude.{max}
 use Rattle.std.proofs.lemmas.List.{at_drop_more, at_drop_all, take_at}
 use Rattle.part_tree.specs.declared.field.FieldName.{FieldName}
-use Rattle.part_tree.specs.declared.field.FieldName.TheVariants.{Bext, Info, Whole, User}
+use Rattle.part_tree.specs.declared.field.FieldName.TheVariants.{Bext, Info, Whole, User, Key, Stream}
 use Rattle.part_tree.specs.declared.field.Value.{Value}
 use Rattle.part_tree.specs.Names.{bext_row}
 use Rattle.field_model.specs.Bext.{raised}
@@ -58,7 +58,7 @@ laid_long name value bext next fits long step = let P : List ℕ → Type 0 = λ
     go (Bext field) (Some v) fits = lay_long (bext_row field) v.raw bext (row_small field) long fits.1
     go (Info id) value fits = long
     go (Whole id) value fits = long
-    go (User id) value fits = long
+    go name value fits = long
 
 -- ---- the whole
 

@@ -7,3 +7,7 @@ pub mod Renewed
 pub mod Patches
 pub mod Fitted
 pub mod Room
+pub mod Steps
+pub mod RiffForm
+pub mod Few
+pub mod Gaps

@@ -1,6 +1,7 @@
 pub mod Cells
 pub mod Lists
 pub mod Info
-pub mod Large
 pub mod Room
-pub mod Order
+pub mod Steps
+pub mod RiffForm
+pub mod Gaps

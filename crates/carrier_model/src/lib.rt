@@ -2,7 +2,7 @@
 //! It knows the list of INFO items and the padding of RIFF, and no kind of file.
 #![tactic(auto)]
 
-ghost use Rattle.std.specs.Prelude.{◌≡◌, ◌≤◌, ◌<◌, ◌+◌, ◌++◌, ℕ, Bool, true, List, [], length};
+ghost use Rattle.std.specs.Prelude.{◌≡◌, ◌≤◌, ◌<◌, ◌+◌, ◌++◌, ℕ, Bool, true, List, [], length, Some};
 ghost use Rattle.std.specs.List.{flat_map};
 ghost use Rattle.part_tree.specs.Patches.{InOrder, Touches, laid};
 ghost use Rattle.container_model.specs.Chunk.{Chunk, spell_all};
@@ -12,6 +12,9 @@ ghost use Rattle.carrier_model.specs.Cells.{Test};
 ghost use Rattle.carrier_model.specs.Lists.{list_values, edit_lists, ActReady};
 ghost use Rattle.carrier_model.specs.Info.{info, info_items, riff_fill, SetsInfo, InfoReady, ItemsSmall};
 ghost use Rattle.carrier_model.specs.Room.{unit_patches, units_fit};
+ghost use Rattle.part_tree.specs.Moves.{place};
+ghost use Rattle.container_model.specs.Splice.{Ascend, Cut, Outside, shift};
+ghost use Rattle.carrier_model.specs.Gaps.{moves_of};
 
 use part_tree as _;
 
@@ -31,4 +34,9 @@ pub fn units_are_patched()
         → InOrder (at + length (spell_all (lay (riff_fill ends) (units shut xs)))) at (unit_patches (riff_fill ends) at (units shut xs)) }
     ensures covers { (ends : Bool) (xs : List Cell) (at q : ℕ) → units_fit ends (units shut xs) ≡ true → at + length (flat_map old_bytes (units shut xs)) ≤ q → q < at + length (spell_all (lay (riff_fill ends) (units shut xs)))
         → Touches q (unit_patches (riff_fill ends) at (units shut xs)) }
+{}
+
+/// A place of a file in none of the spans that an edit replaces is put by the ranges between them where the spans shift it.
+pub fn places_go_with_their_range()
+    ensures { (cs : List Cut) (end p : ℕ) → Ascend 0 cs end → Outside cs p → p < end → place (moves_of cs end) p ≡ Some (shift cs p) }
 {}

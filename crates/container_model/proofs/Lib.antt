@@ -21,3 +21,5 @@ pub mod Windows
 pub mod Rows
 pub mod Walk
 pub mod Cuts
+pub mod Tests
+pub mod Tables

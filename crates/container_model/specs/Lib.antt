@@ -11,3 +11,6 @@ pub mod Rows
 pub mod Walk
 pub mod Cuts
 pub mod Ds64
+pub mod Atoms
+pub mod Tests
+pub mod Tables

@@ -6,7 +6,7 @@ use Rattle.std.proofs.lemmas.List.Sums.{take_while-cons}
 use Rattle.part_tree.specs.declared.field.BextField.{BextField}
 use Rattle.part_tree.specs.declared.field.BextField.TheVariants.{Description, Originator, OriginatorReference, OriginationDate, OriginationTime, TimeReference, Version, Umid, LoudnessValue, LoudnessRange, MaxTruePeakLevel, MaxMomentaryLoudness, MaxShortTermLoudness, Reserved, CodingHistory}
 use Rattle.part_tree.specs.declared.field.FieldName.{FieldName}
-use Rattle.part_tree.specs.declared.field.FieldName.TheVariants.{Bext, Info, Whole, User}
+use Rattle.part_tree.specs.declared.field.FieldName.TheVariants.{Bext, Info, Whole, User, Key, Stream}
 use Rattle.part_tree.specs.declared.field.Form.TheVariants.{Text}
 use Rattle.part_tree.specs.declared.field.Value.{Value}
 use Rattle.part_tree.specs.declared.names.FourCc.{FourCc}
@@ -56,6 +56,13 @@ pub info_shows : (version : ℕ) (name : FieldName) (id : FourCc) (found text sh
     → same ≡ same_text (Some found) (spelled_at version name (raw_of name text))
 info_shows version name id found text shown same is told before =
     let Shows : FieldName → Type 0 = λ n. same ≡ same_text (Some found) (spelled_at version n (raw_of n text)) in
+    subst Shows (sym is) (told ∙ ap (bytes_eq found) (before ∙ sym (before_zeros text 1)))
+
+-- the same of a stream
+pub stream_shows : (version : ℕ) (name : FieldName) (n : ℕ) (found text shown : List ℕ) (same : Bool) → name ≡ Stream n → same ≡ bytes_eq found shown → shown ≡ before_zero text
+    → same ≡ same_text (Some found) (spelled_at version name (raw_of name text))
+stream_shows version name n found text shown same is told before =
+    let Shows : FieldName → Type 0 = λ m. same ≡ same_text (Some found) (spelled_at version m (raw_of m text)) in
     subst Shows (sym is) (told ∙ ap (bytes_eq found) (before ∙ sym (before_zeros text 1)))
 
 whole_is : (version : ℕ) (id : FourCc) (o : Option (List ℕ)) → spelled_whole id.0 o ≡ spelled_at version (Whole id) o
@@ -110,6 +117,8 @@ held_number f (Bext field) vs d lawful same some = fills_number field (get_or vs
 held_number f (Info id) vs d lawful same some = tt
 held_number f (Whole id) vs d lawful same some = tt
 held_number f (User id) vs d lawful same some = tt
+held_number f (Key name) vs d lawful same some = tt
+held_number f (Stream n) vs d lawful same some = tt
 
 -- what a value shows, by the version alone
 pub shown_is : (f : FieldMap) (name : FieldName) (v : Value) → shown f name v ≡ shown_at (version_of f) name v.raw
@@ -117,6 +126,8 @@ shown_is f (Bext field) v = refl
 shown_is f (Info id) v = refl
 shown_is f (Whole id) v = refl
 shown_is f (User id) v = refl
+shown_is f (Key name) v = refl
+shown_is f (Stream n) v = refl
 
 pub spelled_is : (f : FieldMap) (name : FieldName) (o : Option (List ℕ)) → shown_spelled f name o ≡ spelled_at (version_of f) name o
 spelled_is f name None = refl

@@ -1,4 +1,5 @@
 pub mod Effects
+pub mod Filled
 pub mod Hex
 pub mod Lawful
 pub mod Letters

@@ -7,7 +7,7 @@ use Rattle.part_tree.specs.declared.field.Change.{Change}
 use Rattle.part_tree.specs.declared.field.Change.TheVariants.{Set, Remove}
 use Rattle.part_tree.specs.declared.field.EditItem.{EditItem}
 use Rattle.part_tree.specs.declared.field.FieldName.{FieldName}
-use Rattle.part_tree.specs.declared.field.FieldName.TheVariants.{Bext, Info, Whole, User}
+use Rattle.part_tree.specs.declared.field.FieldName.TheVariants.{Bext, Info, Whole, User, Key, Stream}
 use Rattle.part_tree.specs.Names.{IsFieldName, is_field_name}
 use Rattle.field_model.specs.Body.{FitBext, FitsBext}
 use Rattle.field_model.specs.Raw.{raw_of}
@@ -51,6 +51,8 @@ written_sits (Bext field) text raw of_field h = (of_field, (refl, raw_fills fiel
 written_sits (Info id) text raw of_field h = (of_field, tt)
 written_sits (Whole id) text raw of_field h = (of_field, tt)
 written_sits (User id) text raw of_field h = (of_field, tt)
+written_sits (Key name) text raw of_field h = (of_field, tt)
+written_sits (Stream n) text raw of_field h = (of_field, tt)
 
 set_sits : (name : FieldName) (text : List ℕ) → IsFieldName name → (o : Option (List ℕ)) → raw_of name text ≡ o → MaySit (option_map (written name) o)
 set_sits name text of_field None h = tt
@@ -62,6 +64,8 @@ change_sits (Bext field) Remove of_field = (of_field, (refl, blank_fills field))
 change_sits (Info id) Remove of_field = (of_field, tt)
 change_sits (Whole id) Remove of_field = (of_field, tt)
 change_sits (User id) Remove of_field = (of_field, tt)
+change_sits (Key name) Remove of_field = (of_field, tt)
+change_sits (Stream n) Remove of_field = (of_field, tt)
 
 joined : (o : Option RawItem) (e : List RawItem) → MaySit o → AllByRecursion Sits e → AllByRecursion Sits (cons_option o e)
 joined None e h all = all

@@ -7,7 +7,7 @@ use Rattle.me_bytes.proofs.Laws.{length-le_bytes}
 use Rattle.part_tree.specs.declared.field.BextField.{BextField}
 use Rattle.part_tree.specs.declared.field.BextField.TheVariants.{Description, Originator, OriginatorReference, OriginationDate, OriginationTime, TimeReference, Version, Umid, LoudnessValue, LoudnessRange, MaxTruePeakLevel, MaxMomentaryLoudness, MaxShortTermLoudness, Reserved, CodingHistory}
 use Rattle.part_tree.specs.declared.field.FieldName.{FieldName}
-use Rattle.part_tree.specs.declared.field.FieldName.TheVariants.{Bext, Info, Whole, User}
+use Rattle.part_tree.specs.declared.field.FieldName.TheVariants.{Bext, Info, Whole, User, Key, Stream}
 use Rattle.part_tree.specs.declared.field.Value.{Value}
 use Rattle.part_tree.specs.declared.fields.Entry.{Entry}
 use Rattle.part_tree.specs.Fields.{Replaces, values}
@@ -69,9 +69,7 @@ raised_more f raised k old new this v row is puts before = record {
   where
     not_bext : (name : FieldName) → is_bext name ≡ false → same_name (Bext this) name ≡ false
     not_bext (Bext field) h = absurd cc
-    not_bext (Info id) h = refl
-    not_bext (Whole id) h = refl
-    not_bext (User id) h = refl
+    not_bext name h = refl
 
     at : (field : BextField) (t : Bool) → (bext_row this == bext_row field) ≡ t → values new (Bext field) ≡ (if nat_lt (bext_row field) (k + 1) then raised field else f (Bext field))
     at field true h =
@@ -91,12 +89,16 @@ all_raised f e k to es past some version are (Bext field) =
 all_raised f e k to es past some version are (Info id) = are.others (Info id) refl
 all_raised f e k to es past some version are (Whole id) = are.others (Whole id) refl
 all_raised f e k to es past some version are (User id) = are.others (User id) refl
+all_raised f e k to es past some version are (Key name) = are.others (Key name) refl
+all_raised f e k to es past some version are (Stream n) = are.others (Stream n) refl
 
 pub none_named : (f : FieldMap) (e : List RawItem) → names_bext e ≡ false → (name : FieldName) → f name ≡ prepared e f name
 none_named f e none (Bext field) = sym (cond-false (names_bext e) _ _ none)
 none_named f e none (Info id) = refl
 none_named f e none (Whole id) = refl
 none_named f e none (User id) = refl
+none_named f e none (Key name) = refl
+none_named f e none (Stream n) = refl
 
 -- ---- the value that is made
 
@@ -142,9 +144,7 @@ no_bext (i ∷ e) field vs h =
   where
     not_bext : (name : FieldName) → is_bext name ≡ false → same_name name (Bext field) ≡ false
     not_bext (Bext other) h = absurd cc
-    not_bext (Info id) h = refl
-    not_bext (Whole id) h = refl
-    not_bext (User id) h = refl
+    not_bext name h = refl
 
 -- the items laid over the prepared fields are the fields after the edit
 pub laid_is_updated : (f : FieldMap) (e : List RawItem) (name : FieldName) → updated_values e name (prepared e f name) ≡ updated e f name
@@ -158,6 +158,8 @@ laid_is_updated f e (Bext field) = go (names_bext e) refl
 laid_is_updated f e (Info id) = refl
 laid_is_updated f e (Whole id) = refl
 laid_is_updated f e (User id) = refl
+laid_is_updated f e (Key name) = refl
+laid_is_updated f e (Stream n) = refl
 
 -- what the items make of prepared fields is what the edit makes
 pub all_put : (f g h : FieldMap) (first second e : List RawItem) → first ≡ e → second ≡ e → ((name : FieldName) → g name ≡ prepared first f name)
@@ -215,6 +217,8 @@ item_one (Bext a) (Some v) field vs fits one = go (bext_row a == bext_row field)
 item_one (Info id) value field vs fits one = one
 item_one (Whole id) value field vs fits one = one
 item_one (User id) value field vs fits one = one
+item_one (Key name) value field vs fits one = one
+item_one (Stream n) value field vs fits one = one
 
 values_one : (e : List RawItem) (field : BextField) (vs : List Value) → FitBext e → OneFills field vs → OneFills field (updated_values e (Bext field) vs)
 values_one [] field vs fit one = one

@@ -1,7 +1,7 @@
 -- Which bytes a number is read of, and which forms are texts.
 use Rattle.std.specs.Prelude.{◌≡◌, ℕ, List, length}
 use Rattle.part_tree.specs.declared.field.FieldName.{FieldName}
-use Rattle.part_tree.specs.declared.field.FieldName.TheVariants.{Bext, Info, Whole, User}
+use Rattle.part_tree.specs.declared.field.FieldName.TheVariants.{Bext, Info, Whole, User, Key, Stream}
 use Rattle.part_tree.specs.declared.field.Form.{Form}
 use Rattle.part_tree.specs.declared.field.Form.TheVariants.{Text, Date, Time, Count, Version, Umid, Loudness, Reserved}
 use Rattle.field_model.specs.Bext.{form_of}
@@ -22,6 +22,8 @@ HasNumber (Bext field) raw = FormHasNumber (form_of field) raw
 HasNumber (Info id) raw = Unit {0}
 HasNumber (Whole id) raw = Unit {0}
 HasNumber (User id) raw = Unit {0}
+HasNumber (Key name) raw = Unit {0}
+HasNumber (Stream n) raw = Unit {0}
 
 -- a form that isn't a text
 abbrev pub IsNoText : Form → Type 0

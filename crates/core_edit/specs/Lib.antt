@@ -1,4 +1,5 @@
 pub mod Edits
+pub mod Exported
 pub mod Forms
 pub mod Hundredths
 pub mod Made

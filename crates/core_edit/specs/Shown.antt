@@ -1,11 +1,11 @@
 -- The text that a value shows, without taking memory.
 use Rattle.std.specs.Prelude.{ℕ, List, true, false, Option, Some, None}
 use Rattle.part_tree.specs.declared.field.FieldName.{FieldName}
-use Rattle.part_tree.specs.declared.field.FieldName.TheVariants.{Bext, Info, Whole, User}
+use Rattle.part_tree.specs.declared.field.FieldName.TheVariants.{Bext, Info, Whole, User, Key, Stream}
 use Rattle.part_tree.specs.declared.field.Form.{Form}
 use Rattle.field_model.specs.Bext.{form_of}
 use Rattle.field_model.specs.Numbers.{hex_text}
-use Rattle.field_model.specs.Shown.{before_zero, shown_form, shown_whole}
+use Rattle.field_model.specs.Shown.{before_zero, shown_form, shown_key, shown_whole}
 use Rattle.core_edit.specs.declared.value_text.ShownText.{ShownText}
 use Rattle.core_edit.specs.declared.value_text.ShownText.TheVariants.{Plain, Upper, Lower, Few}
 
@@ -22,6 +22,8 @@ shown_at version (Bext field) raw = shown_form (form_of field) version raw
 shown_at version (Info id) raw = Some (before_zero raw)
 shown_at version (Whole id) raw = Some (shown_whole id.0 raw)
 shown_at version (User id) raw = Some raw
+shown_at version (Key name) raw = shown_key raw
+shown_at version (Stream n) raw = Some (before_zero raw)
 
 -- what the spelling of a text shows
 abbrev pub spelled_at : ℕ → FieldName → Option (List ℕ) → Option (List ℕ)

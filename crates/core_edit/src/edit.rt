@@ -57,7 +57,8 @@ impl Edit {
         Ok(Edit { held: items })
     }
 
-    fn of(items: Vec<EditItem>) -> Edit
+    /// An edit of sound items.
+    pub fn of(items: Vec<EditItem>) -> Edit
         requires { AreSound items.items }
         ensures { result ≡ items.items }
     {

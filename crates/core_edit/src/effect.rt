@@ -64,7 +64,8 @@ fn is_spelled(version: u16, name: &FieldName, found: &ShownText, text: &[u8]) ->
         FieldName::Bext(field) => is_spelled_bext(version, *field, found, text),
         FieldName::Info(_) => found.is(&ShownText::Plain(before_zero(text))),
         FieldName::Whole(id) => is_spelled_whole(id, found, text),
-        FieldName::User(_) => found.is(&ShownText::Plain(text)),
+        FieldName::User(_) | FieldName::Key(_) => found.is(&ShownText::Plain(text)),
+        FieldName::Stream(_) => found.is(&ShownText::Plain(before_zero(text))),
     }
 }
 

@@ -10,6 +10,7 @@ mod edit;
 #[cfg(test)]
 mod edit_tests;
 mod effect;
+mod exported;
 mod name;
 mod number;
 mod raw;
@@ -25,8 +26,9 @@ pub use changes::raw_changes;
 pub use edit::{Edit, EditFault, effective};
 pub use effect::has_effect;
 pub use escapes::{escape, unescape};
+pub use exported::table_text;
 pub use name::{field_name, name_text};
 pub use part_tree::{Change, EditItem};
 pub use raw::raw_of;
 pub use rule::text_rule;
-pub use value_text::{ShownText, shown, shown_text};
+pub use value_text::{ShownText, before_zero, key_text, shown, shown_text};

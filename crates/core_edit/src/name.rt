@@ -1,9 +1,12 @@
 // The names of fields as texts.
-ghost use Rattle.std.specs.Prelude.{◌≡◌, IfOk, Some, option_copied};
+ghost use Rattle.std.specs.Prelude.{◌≡◌, ◌++◌, IfOk, Some, None, option_copied, length, take, drop, if◌then◌else◌};
+ghost use Rattle.std.specs.Str.{bytes_eq};
 ghost use Rattle.field_model.specs.Texts as spec;
+ghost use Rattle.field_model.specs.Texts.{or_name};
 ghost use Rattle.core_edit.specs.Names.{found_name};
 
-use part_tree::{BextField, Bytes, FieldName, FourCc, NoMemory, is_user};
+use crate::number::{count_of, decimal_text};
+use part_tree::{BextField, Bytes, FieldName, FourCc, KeyName, NoMemory, is_user};
 use std::alloc::Global;
 
 // The text of a name.
@@ -161,7 +164,20 @@ pub fn field_name(text: &[u8]) -> Option<FieldName>
 {
     match named_in(&NAMES, text) {
         Some(name) => Some(name),
-        None => user_name(text),
+        None => other_name(text),
+    }
+}
+
+// The user field, the key or the stream that a text names.
+fn other_name(text: &[u8]) -> Option<FieldName>
+    ensures { result ≡ or_name (spec.user_name text.now) (or_name (spec.key_name text.now) (spec.stream_name text.now)) }
+{
+    if let Some(name) = user_name(text) {
+        return Some(name);
+    }
+    match key_name(text) {
+        Some(name) => Some(name),
+        None => stream_name(text),
     }
 }
 
@@ -194,6 +210,38 @@ fn user_name(text: &[u8]) -> Option<FieldName>
     }
 }
 
+// The key that a text names: `key:` and its name.
+fn key_name(text: &[u8]) -> Option<FieldName>
+    ensures { result ≡ spec.key_name text.now }
+{
+    let name = behind(b"key:", text)?;
+    match KeyName::new(name) {
+        Some(key) => Some(FieldName::Key(key)),
+        None => None,
+    }
+}
+
+// The stream that a text names: `strn:` and its number.
+fn stream_name(text: &[u8]) -> Option<FieldName>
+    ensures { result ≡ spec.stream_name text.now }
+{
+    let digits = behind(b"strn:", text)?;
+    match count_of(digits) {
+        Some(n) if n <= u64::from(u32::MAX) => Some(FieldName::Stream(n as u32)),
+        _ => None,
+    }
+}
+
+// What stands behind a word. None where the text doesn't begin with it.
+fn behind<'a>(word: &[u8], text: &'a [u8]) -> Option<&'a [u8]>
+    ensures { option_copied result ≡ (if bytes_eq (take (length word.now) text.now) word.now then Some (drop (length word.now) text.now) else None) }
+{
+    if text.len() < word.len() || &text[..word.len()] != word {
+        return None;
+    }
+    Some(&text[word.len()..])
+}
+
 /// The text of a name. None where the name is no field's, or is that of the reserved bytes.
 pub fn name_text(alloc: Global, name: &FieldName) -> Result<Option<Bytes>, NoMemory>
     ensures { IfOk result (λ text. text ≡ spec.name_text name.now) }
@@ -209,7 +257,18 @@ pub fn name_text(alloc: Global, name: &FieldName) -> Result<Option<Bytes>, NoMem
         FieldName::Info(id) => some_bytes(alloc, &id.0),
         FieldName::Whole(id) => some_bytes(alloc, whole_text(id)),
         FieldName::User(id) => some_bytes(alloc, &[b'@', id.0[1], id.0[2], id.0[3]]),
+        FieldName::Key(key) => joined(alloc, b"key:", key.as_slice()),
+        FieldName::Stream(n) => joined(alloc, b"strn:", decimal_text(u64::from(*n)).as_slice()),
     }
+}
+
+// A word and what stands behind it.
+fn joined(alloc: Global, word: &[u8], rest: &[u8]) -> Result<Option<Bytes>, NoMemory>
+    ensures { IfOk result (λ found. found ≡ Some (word.now ++ rest.now)) }
+{
+    let mut text = Vec::from_slice(alloc, word)?;
+    text.extend_from_slice(rest)?;
+    Ok(Some(Bytes::of(text)))
 }
 
 fn some_bytes(alloc: Global, text: &[u8]) -> Result<Option<Bytes>, NoMemory>

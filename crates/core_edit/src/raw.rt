@@ -29,7 +29,20 @@ pub fn raw_of(alloc: Global, name: &FieldName, text: &[u8]) -> Result<Option<Byt
             }
         }
         FieldName::User(_) => padded(alloc, text, 0),
+        FieldName::Key(_) => key_raw(alloc, text),
+        FieldName::Stream(_) => padded(alloc, text, 1),
     }
+}
+
+// What stands before the text of a key: type 1, which is UTF-8, and locale 0.
+const KEY_HEAD: [u8; 8] = [0, 0, 0, 1, 0, 0, 0, 0];
+
+fn key_raw(alloc: Global, text: &[u8]) -> Result<Option<Bytes>, NoMemory>
+    ensures { IfOk result (λ raw. raw ≡ Some (spec.key_head ++ text.now)) }
+{
+    let mut raw = Vec::from_slice(alloc, &KEY_HEAD)?;
+    raw.extend_from_slice(text)?;
+    Ok(Some(Bytes::of(raw)))
 }
 
 fn raw_bext(alloc: Global, field: BextField, text: &[u8]) -> Result<Option<Bytes>, NoMemory>

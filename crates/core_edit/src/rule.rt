@@ -64,10 +64,13 @@ fn is_info(name: &FieldName) -> bool
     matches!(name, FieldName::Info(_))
 }
 
-fn is_user_name(name: &FieldName) -> bool
-    ensures { result ≡ spec.is_user name.now }
+fn is_short(name: &FieldName) -> bool
+    ensures { result ≡ spec.is_short name.now }
 {
-    matches!(name, FieldName::User(_))
+    matches!(
+        name,
+        FieldName::User(_) | FieldName::Key(_) | FieldName::Stream(_)
+    )
 }
 
 fn is_whole(name: &FieldName) -> bool
@@ -108,7 +111,7 @@ fn has_zero(text: &[u8]) -> bool
 fn has_nul(name: &FieldName, text: &[u8]) -> bool
     ensures { result ≡ spec.has_nul name.now text.now }
 {
-    (is_form(name, Form::Text) || is_info(name) || is_user_name(name)) && has_zero(text)
+    (is_form(name, Form::Text) || is_info(name) || is_short(name)) && has_zero(text)
 }
 
 fn is_bext_letter(history: bool, x: u8) -> bool
@@ -194,14 +197,14 @@ fn is_text(text: &[u8]) -> bool
 fn no_utf8(name: &FieldName, text: &[u8]) -> bool
     ensures { result ≡ spec.no_utf8 name.now text.now }
 {
-    (is_info(name) || is_user_name(name)) && !is_text(text)
+    (is_info(name) || is_short(name)) && !is_text(text)
 }
 
 fn too_long(name: &FieldName, text: &[u8]) -> bool
     ensures { result ≡ spec.too_long name.now text.now }
 {
     let len = text.len();
-    (is_user_name(name) && len > 65535)
+    (is_short(name) && len > 65535)
         || ((is_info(name) || is_history_name(name)) && len > 1_048_576)
         || (is_whole(name) && !is_checksum(name) && len > 16_777_216)
 }

@@ -1,11 +1,17 @@
 // Worked rows.
 use crate::{ShownText, field_name, name_text, raw_of, shown_text, text_rule};
-use part_tree::{BextField, FieldName, FourCc};
+use part_tree::{BextField, FieldName, FourCc, KeyName};
+use std::process::Abort;
 use std::test::Fail;
 
 #[test]
 fn names(rt: HostRuntime) {
-    let rows: [(&str, Option<FieldName>); 9] = [
+    let rows: [(&str, Option<FieldName>); 14] = [
+        ("key:a", Some(key(&rt, b"a"))),
+        ("key:", None),
+        ("key:a b", None),
+        ("strn:10", Some(FieldName::Stream(10))),
+        ("strn:010", None),
         ("INAM", Some(FieldName::Info(FourCc(*b"INAM")))),
         ("inam", None),
         ("XXXX", None),
@@ -22,15 +28,29 @@ fn names(rt: HostRuntime) {
 }
 
 #[test]
-fn name_of_a_chunk(rt: HostRuntime) -> Result<(), Fail> {
-    let text = name_text(rt.alloc(), &FieldName::Whole(FourCc(*b"_PMX")))?.expect(&rt, "a text");
-    assert_eq!(rt; text.as_slice(), b"XMP".as_slice());
+fn texts_of_names(rt: HostRuntime) -> Result<(), Fail> {
+    let rows: [(FieldName, &[u8]); 3] = [
+        (FieldName::Whole(FourCc(*b"_PMX")), b"XMP"),
+        (key(&rt, b"a"), b"key:a"),
+        (FieldName::Stream(4_294_967_295), b"strn:4294967295"),
+    ];
+    for (name, text) in rows.iter() {
+        let told = name_text(rt.alloc(), name)?.expect(&rt, "a text");
+        assert_eq!(rt; told.as_slice(), *text);
+    }
     Ok(())
+}
+
+fn key(rt: &impl Abort, name: &[u8]) -> FieldName {
+    FieldName::Key(KeyName::new(name).expect(rt, "a name"))
 }
 
 #[test]
 fn rules(rt: HostRuntime) -> Result<(), Fail> {
-    let rows: [(&str, &[u8], Option<u8>); 18] = [
+    let rows: [(&str, &[u8], Option<u8>); 21] = [
+        ("key:a", b"a\0b", Some(3)),
+        ("strn:0", b"\xff", Some(12)),
+        ("key:a", b"Hi", None),
         ("Version", b"1", Some(2)),
         ("INAM", b"a\0b", Some(3)),
         ("Originator", b"\x7f", Some(4)),
@@ -59,7 +79,9 @@ fn rules(rt: HostRuntime) -> Result<(), Fail> {
 
 #[test]
 fn spellings(rt: HostRuntime) -> Result<(), Fail> {
-    let rows: [(&str, &[u8], Option<&[u8]>); 8] = [
+    let rows: [(&str, &[u8], Option<&[u8]>); 10] = [
+        ("key:a", b"Hi", Some(b"\0\0\0\x01\0\0\0\0Hi")),
+        ("strn:0", b"Cam", Some(b"Cam\0")),
         ("OriginationDate", b"2024_01.31", Some(b"2024-01-31")),
         ("OriginationTime", b"12 00 59", Some(b"12:00:59")),
         ("TimeReference", b"258", Some(b"\x02\x01\0\0\0\0\0\0")),

@@ -1,5 +1,5 @@
 // The text that a value shows.
-ghost use Rattle.std.specs.Prelude.{◌≡◌, ◌<◌, ℕ, List, length, ◌≤◌, ◌/◌, ◌%◌, ◌==◌, ◌↔◌, get_or, IfOk, option_map, IsTrue, true, false, if◌then◌else◌};
+ghost use Rattle.std.specs.Prelude.{◌≡◌, ◌<◌, ℕ, List, length, ◌≤◌, ◌/◌, ◌%◌, ◌==◌, ◌↔◌, get_or, IfOk, option_copied, option_map, IsTrue, true, false, if◌then◌else◌};
 ghost use Rattle.std.specs.List.{position_or_len};
 ghost use Rattle.std.specs.Str.{bytes_eq};
 ghost use Rattle.std.specs.Fmt.{digit_glyph};
@@ -195,7 +195,22 @@ pub fn shown_text<'a>(version: u16, name: &FieldName, raw: &'a [u8]) -> Option<S
             }
         }
         FieldName::User(_) => Some(ShownText::Plain(raw)),
+        FieldName::Key(_) => {
+            let text = key_text(raw)?;
+            Some(ShownText::Plain(text))
+        }
+        FieldName::Stream(_) => Some(ShownText::Plain(before_zero(raw))),
     }
+}
+
+/// The text of a key's value: what stands behind its type and its locale. None where the type isn't UTF-8.
+pub fn key_text(raw: &[u8]) -> Option<&[u8]>
+    ensures { option_copied result ≡ spec.shown_key raw.now }
+{
+    if raw.len() < 4 || raw[..4] != [0, 0, 0, 1] {
+        return None;
+    }
+    Some(if raw.len() < 8 { &[] } else { &raw[8..] })
 }
 
 /// What the bytes of a field of `bext` show, where it tells this version. None where they show nothing.

@@ -1,27 +1,30 @@
 -- The worked plans are plans for the worked file.
-use Rattle.std.proofs.Common.{◌≡◌, ap, inl, inr, List, refl, arith, lit<, subst, sym}
+use Rattle.std.proofs.Common.{◌≡◌, ap, inl, inr, List, [], refl, arith, lit<, subst, sym}
 use Rattle.part_tree.specs.declared.plan.Patch.{Patch}
 use Rattle.part_tree.specs.declared.plan.Segment.{Segment}
 use Rattle.part_tree.specs.declared.plan.Plan.TheVariants.{InPlace, Rewrite}
 use Rattle.me_disk.specs.Disk.{Disk}
-use Rattle.edit_journal.specs.Journal.{Journal}
+use Rattle.edit_journal.specs.Strips.{cut}
+use Rattle.edit_journal.specs.Journal.{Journal, spelled}
 use Rattle.edit_journal.specs.Settled.{StandsAlone}
 use Rattle.file_swap.specs.Swap.{Swapping, fresh, Underway}
 use Rattle.file_swap.proofs.Installs.{begins}
 use Rattle.part_tree.specs.Plans.{CanRun, Belongs}
 use Rattle.edit_journal.specs.Journal.Journal.{version_1}
-use Rattle.crash_rows.specs.declared.bytes.TheConstants.{JOURNAL}
+use Rattle.crash_rows.specs.declared.bytes.TheConstants.{JOURNAL, OLD_JOURNAL}
 use Rattle.crash_rows.specs.Worked.{file, patches, in_place, rewrite}
 
 pub rules : CanRun in_place
 unfolding in_place patches
 rules = record {
-  old_fits = lit< tt;
-  new_fits = lit< tt;
   few = omega arith;
-  order = (record { some = omega arith; after = omega arith; inside = omega arith }, (record { some = omega arith; after = omega arith; inside = omega arith }, tt));
-  small = omega arith;
-  whole = λ q past low. inr (inl (omega arith, omega arith));
+  rules = record {
+    old_fits = lit< tt;
+    new_fits = lit< tt;
+    order = (record { some = omega arith; after = omega arith; inside = omega arith }, (record { some = omega arith; after = omega arith; inside = omega arith }, tt));
+    small = omega arith;
+    whole = λ q past low. inr (inl (omega arith, omega arith));
+  };
 }
 
 pub in_place_belongs : Belongs in_place file
@@ -30,17 +33,17 @@ in_place_belongs = record { can = rules; file = refl }
 
 pub adds_up : CanRun rewrite
 unfolding rewrite
-adds_up = record { total = refl; fits = lit< tt }
+adds_up = record { total = refl; fits = lit< tt; based = (tt, (tt, (tt, (tt, (tt, (tt, tt)))))) }
 
 pub rewrite_belongs : Belongs rewrite file
 unfolding file rewrite
-rewrite_belongs = record { can = adds_up; file = ((omega arith, (tt, (tt, (omega arith, (omega arith, (tt, tt)))))), lit< tt) }
+rewrite_belongs = record { can = adds_up; file = ((omega arith, (tt, (tt, (omega arith, (omega arith, (tt, tt)))))), lit< tt, (tt, (tt, (tt, (tt, (tt, (tt, tt))))))) }
 
 pub can_patch : (ps : List Patch) → ps ≡ patches → CanRun (InPlace 48 72 ps)
 unfolding in_place
 can_patch ps is = subst (λ (qs : List Patch). CanRun (InPlace 48 72 qs)) (sym is) rules
 
-pub can_rewrite : (ss : List Segment) → Rewrite 72 ss ≡ rewrite → CanRun (Rewrite 72 ss)
+pub can_rewrite : (ss : List Segment) → Rewrite 72 [] ss ≡ rewrite → CanRun (Rewrite 72 [] ss)
 can_rewrite ss is = subst CanRun (sym is) adds_up
 
 pub in_place_begins : (s : Swapping) (d : Disk) → s ≡ fresh in_place → StandsAlone file d → Underway s file d
@@ -53,6 +56,10 @@ pub in_place_is : (ps : List Patch) → ps ≡ patches → InPlace 48 72 ps ≡ 
 unfolding in_place
 in_place_is ps is = ap (λ (qs : List Patch). InPlace 48 72 qs) is
 
-pub journal_is : Journal JOURNAL 48 72 patches
+pub journal_is : JOURNAL ≡ spelled 48 72 patches
+unfolding patches spelled cut
+journal_is = refl
+
+pub old_journal_is : Journal OLD_JOURNAL 48 72 patches
 unfolding in_place patches
-journal_is = version_1 (record { is = refl; rules = rules })
+old_journal_is = version_1 (record { is = refl; few = omega arith; rules = rules.rules })

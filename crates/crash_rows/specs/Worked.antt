@@ -6,7 +6,8 @@ use Rattle.part_tree.specs.declared.plan.Plan.{Plan}
 use Rattle.part_tree.specs.declared.plan.Plan.TheVariants.{InPlace, Rewrite}
 use Rattle.part_tree.specs.declared.plan.Segment.TheVariants.{Copy, Literal}
 use Rattle.part_tree.specs.Plans.{applied}
-use Rattle.edit_journal.specs.Journal.{Journal}
+use Rattle.edit_journal.specs.Strips.{Strip}
+use Rattle.edit_journal.specs.Journal.{version_of, Spells}
 use Rattle.edit_journal.specs.declared.fault.JournalHead.{JournalHead}
 use Rattle.crash_rows.specs.declared.bytes.TheConstants.{FILE, SIZE, LIST}
 
@@ -24,7 +25,7 @@ in_place = InPlace 48 72 patches
 
 -- the rewrite, of which two segments are empty
 unfoldable pub rewrite : Plan
-rewrite = Rewrite 72 (Copy (record { at = 0; len = 4 }) ∷ Literal [] ∷ Literal SIZE ∷ Copy (record { at = 8; len = 0 }) ∷ Copy (record { at = 8; len = 40 }) ∷ Literal LIST ∷ [])
+rewrite = Rewrite 72 [] (Copy (record { at = 0; len = 4 }) ∷ Literal [] ∷ Literal SIZE ∷ Copy (record { at = 8; len = 0 }) ∷ Copy (record { at = 8; len = 40 }) ∷ Literal LIST ∷ [])
 
 -- the file after the edit in place
 unfoldable pub titled_file : List ℕ
@@ -32,9 +33,9 @@ titled_file = applied in_place file
 
 -- the header is that of a whole journal with these bytes
 pub record IsJournalOf (head : JournalHead) (b : List ℕ) : Type 0 where
-  pub patches : List Patch
-  pub journal : Journal b head.old_len head.new_len patches
-  pub count : head.count ≡ length patches
+  pub strips : List Strip
+  pub journal : Spells (version_of head.version) b head.old_len head.new_len strips
+  pub count : head.count ≡ length strips
   pub len : head.len ≡ length b
 
 -- a file of so many zeros, where there is one

@@ -1,5 +1,5 @@
 // Runs of a worked edit over a depot in memory.
-ghost use Rattle.std.specs.Prelude.{◌≡◌, ◌↔◌, IfErr, IfOk, IsSome, IsTrue, None, OnOk, Some};
+ghost use Rattle.std.specs.Prelude.{[], ◌≡◌, ◌↔◌, IfErr, IfOk, IsSome, IsTrue, None, OnOk, Some};
 ghost use Rattle.part_tree.specs.declared.plan.Segment.TheVariants.{Copy};
 ghost use Rattle.part_tree.specs.declared.plan.Plan.TheVariants.{InPlace, Rewrite};
 ghost use Rattle.part_tree.specs.Plans.{applied};
@@ -7,7 +7,7 @@ ghost use Rattle.me_disk.specs.Disk.{held, Leaves, Only, read_as};
 ghost use Rattle.me_disk.specs.Memory.{items_of, memory_disk};
 ghost use Rattle.me_disk.specs.Steps.{ReadsOnly};
 ghost use Rattle.edit_journal.specs.Damage.{damage_over};
-ghost use Rattle.edit_journal.specs.Journal.{Journal};
+ghost use Rattle.edit_journal.specs.Journal.{spelled};
 ghost use Rattle.edit_journal.specs.Reads.{OnDamaged};
 ghost use Rattle.edit_journal.specs.Settled.{Settles, StandsAlone};
 ghost use Rattle.file_swap.specs.Midway.{SettlesEither};
@@ -16,11 +16,11 @@ ghost use Rattle.recovery.specs.Recovered.{IsRefusal, Recovers};
 ghost use Rattle.recovery.specs.Redo.{SettlesAlike};
 ghost use Rattle.crash_rows.specs.Worked.{file, in_place, patches, rewrite, zeros, IsJournalOf};
 
-use crate::bytes::{LIST, SIZE, file_bytes, journal_bytes};
+use crate::bytes::{LIST, SIZE, file_bytes, journal_bytes, old_journal_bytes};
 use edit_journal::{JournalFault, JournalHead, check_journal, spell_journal};
 use file_swap::Swap;
 use me_disk::{Depot, FailAt, MemoryDepot, Pick, Room, Slot};
-use part_tree::{Bytes, NoMemory, Patch, Patches, Plan, Segment, Segments, Span};
+use part_tree::{Bytes, Moves, NoMemory, Patch, Patches, Plan, Segment, Segments, Span};
 use recovery::{RecoverFault, Recovered, recover};
 use std::alloc::Global;
 
@@ -62,7 +62,7 @@ pub fn edit_in_place(alloc: Global) -> Result<Swap, NoMemory>
 
 /// The journal of the edit in place.
 pub fn spell_in_place(alloc: Global) -> Result<Bytes, NoMemory>
-    ensures { IfOk result (λ b. Journal b 48 72 patches) }
+    ensures { IfOk result (λ b. b ≡ spelled 48 72 patches) }
 {
     let patches = patches_in_place(alloc)?;
     spell_journal(alloc, 48, 72, patches.as_slice())
@@ -75,7 +75,7 @@ fn copied(at: u64, len: u64) -> Segment
 }
 
 fn segments(alloc: Global) -> Result<Vec<Segment>, NoMemory>
-    ensures { IfOk result (λ ss. Rewrite 72 ss.items ≡ rewrite) }
+    ensures { IfOk result (λ ss. Rewrite 72 [] ss.items ≡ rewrite) }
 {
     let none = Segment::Literal(Bytes::of(Vec::new(alloc)));
     let size = Segment::Literal(Bytes::of(SIZE.to_vec(alloc)?));
@@ -91,6 +91,7 @@ pub fn edit_by_rewrite(alloc: Global) -> Result<Swap, NoMemory>
     let segments = segments(alloc)?;
     let plan = Plan::Rewrite {
         new_len: 72,
+        moves: Moves::none(alloc),
         segments: Segments::new(segments),
     };
     Swap::new(alloc, plan)
@@ -252,12 +253,16 @@ pub fn check_of(
     Ok(check_journal(&mut depot))
 }
 
-/// A depot that holds the file and its journal, and of which one call fails.
-pub fn broken_off(alloc: Global, failing: Vec<FailAt>) -> Result<MemoryDepot, NoMemory>
+/// A depot that holds the file and its journal, of the version that is written or of the older one, and of which one call fails.
+pub fn broken_off(alloc: Global, old: bool, failing: Vec<FailAt>) -> Result<MemoryDepot, NoMemory>
     ensures { IfOk result (λ d. Only (read_as (memory_disk d).slots) (memory_disk d)) }
 {
     let main = file_bytes(alloc)?;
-    let journal = journal_bytes(alloc)?;
+    let journal = if old {
+        old_journal_bytes(alloc)?
+    } else {
+        journal_bytes(alloc)?
+    };
     depot_with(alloc, Some(main), journal, failing)
 }
 

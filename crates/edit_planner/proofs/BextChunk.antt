@@ -5,7 +5,7 @@ use Rattle.std.specs.List.{flat_map}
 use Rattle.std.proofs.lemmas.List.{append-nil, at_drop_more, at_drop_all, drop-set-lt}
 use Rattle.std.proofs.lemmas.Bool.{lt-ltb}
 use Rattle.part_tree.specs.declared.field.FieldName.{FieldName}
-use Rattle.part_tree.specs.declared.field.FieldName.TheVariants.{Bext, Info, Whole, User}
+use Rattle.part_tree.specs.declared.field.FieldName.TheVariants.{Bext, Info, Whole, User, Key, Stream}
 use Rattle.part_tree.specs.declared.field.Value.{Value}
 use Rattle.field_model.specs.Bext.{new_body}
 use Rattle.field_model.specs.Body.{FitBext, edited_bext}
@@ -43,7 +43,7 @@ fine_items (c ∷ cs) h = (one c.name c.value h.0, fine_items cs h.1)
     one (Info id) (Some v) h = h
     one (Whole id) None h = h
     one (Whole id) (Some v) h = h
-    one (User id) o h = h
+    one other o h = h
 
 pub fine_fits : (cs : List RawChange) → AreFine cs → FitBext (raw_items_of cs)
 fine_fits cs h = bext.fit_bext (raw_items_of cs) (fine_items cs h)
@@ -193,4 +193,4 @@ fine_from (c ∷ cs) h = (one c.name c.value h.0, fine_from cs h.1)
     one (Info id) (Some v) h = h
     one (Whole id) None h = h
     one (Whole id) (Some v) h = h
-    one (User id) o h = h
+    one other o h = h

@@ -8,7 +8,7 @@ use Rattle.std.proofs.lemmas.Bool.{lt-ltb, le-ltb}
 use Rattle.part_tree.specs.Letters.{four}
 use Rattle.part_tree.specs.declared.names.FourCc.{FourCc}
 use Rattle.part_tree.specs.declared.field.FieldName.{FieldName}
-use Rattle.part_tree.specs.declared.field.FieldName.TheVariants.{Bext, Info, Whole, User}
+use Rattle.part_tree.specs.declared.field.FieldName.TheVariants.{Bext, Info, Whole, User, Key, Stream}
 use Rattle.part_tree.specs.declared.field.Value.{Value}
 use Rattle.field_model.specs.Update.{RawItem}
 use Rattle.wave_model.specs.Carry.{info_item, info_part, raw}
@@ -21,7 +21,7 @@ use Rattle.container_model.proofs.Items.{MakesGood, all_after}
 use Rattle.container_model.proofs.Plain.{IsPlain, ArePlain, plain_chunks}
 use Rattle.carrier_model.specs.Cells.{leave, become, changed_cell, never, acted_cells}
 use Rattle.carrier_model.specs.Info.{info, info_items, list_of, list_run, made, remade, one_of, SetsInfo}
-use Rattle.carrier_model.specs.Large.{limited, first_above}
+use Rattle.part_tree.specs.Large.{limited, first_above}
 use Rattle.carrier_model.specs.Lists.{home, items_of, all_items, concerns, part_of, edit_nth, has_carrier, sets_some, new_carrier, lists_act, lists_act_by}
 use Rattle.carrier_model.proofs.Info.{list_again, small_items, made_plain, info_len}
 use Rattle.info_list.specs.Info.{chunk_of, chunks_of, item_of, list_chunk, made_of, tokens_of}
@@ -308,7 +308,7 @@ info_sets (i ∷ e) = both (info_item i.name i.value) (one i.name i.value) (info
     one (Bext field) value = tt
     one (Info id) value = by id value (one_of info_ids id.0) refl
     one (Whole id) value = tt
-    one (User id) value = tt
+    one other value = tt
 
 pub are_info : (h : List ℕ → ℕ) (e : List RawItem) (is : List Homed) → is ≡ homed_of h (info_part e) → AreInfo is
 are_info h e is same = subst AreInfo (sym same) (info_homed h (info_part e) (info_sets e))

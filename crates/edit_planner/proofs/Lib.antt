@@ -11,3 +11,4 @@ pub mod ListSizes
 pub mod Unmet
 pub mod Ready
 pub mod Formed
+pub mod OfKind

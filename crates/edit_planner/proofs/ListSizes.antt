@@ -16,13 +16,14 @@ use Rattle.carrier_model.specs.Lists.{lists_act}
 use Rattle.carrier_model.proofs.Cells.{Makes, Unseen, all_acted, live_acted, live_from}
 use Rattle.wave_model.specs.Wave.{wave_of, cells_of}
 use Rattle.wave_model.specs.Fields.{bodies, body_in, is_bext, is_info, is_marked}
-use Rattle.wave_model.specs.Carry.{Step, bext_act, bext_by, edits_bext, info_part, some_chunk, whole_act, carried, steps}
+use Rattle.wave_model.specs.Carry.{bext_act, bext_by, edits_bext, info_part, some_chunk, whole_act, steps}
+use Rattle.carrier_model.specs.Steps.{Step, carried}
 use Rattle.wave_model.specs.Edited.{ChunkFine, Supported}
 use Rattle.wave_model.specs.New.{ends_file}
 use Rattle.wave_model.proofs.Acts.{Blind, whole_unseen}
 use Rattle.wave_model.proofs.Cells.{all_cells, gaps_cells, view_laid}
 use Rattle.wave_model.proofs.New.{ignores_info}
-use Rattle.wave_model.proofs.Steps.{gaps_carried, live_carried, steps_unseen}
+use Rattle.carrier_model.proofs.Steps.{gaps_carried, live_carried, steps_unseen}
 use Rattle.edit_planner.specs.Lists.{SmallLists, TellsLarge, lengths}
 use Rattle.edit_planner.specs.Places.{list_sizes}
 use Rattle.edit_planner.specs.declared.lists.ListsFault.{ListsFault}

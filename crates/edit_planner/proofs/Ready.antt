@@ -7,22 +7,23 @@ use Rattle.me_disk.specs.Holds.{Holds}
 use Rattle.me_disk.specs.Steps.{ReadsOnly}
 use Rattle.part_tree.specs.declared.field.EditItem.{EditItem}
 use Rattle.part_tree.specs.declared.names.Kind.{Kind}
-use Rattle.part_tree.specs.declared.names.Kind.TheVariants.{Wave, Rf64, Avi, Mov}
+use Rattle.part_tree.specs.declared.names.Kind.TheVariants.{Wave, Rf64, Bw64, Avi, Mov}
 use Rattle.part_tree.specs.Fields.{values}
-use Rattle.field_model.specs.Broken.{is_movie, is_wave}
+use Rattle.field_model.specs.KindFacts.{is_wave}
 use Rattle.field_model.specs.Fields.{FieldMap}
 use Rattle.field_model.specs.Update.{RawItem, effective, raw_items}
 use Rattle.bext_fields.specs.declared.change.RawChange.{RawChange}
 use Rattle.bext_fields.specs.Change.{raw_items_of}
-use Rattle.carrier_model.specs.Large.{Size, first_above}
+use Rattle.part_tree.specs.Large.{Size, first_above}
 use Rattle.wave_model.specs.Wave.{cells_of, wave_of}
-use Rattle.wave_model.specs.Carry.{carried, steps}
+use Rattle.wave_model.specs.Carry.{steps}
+use Rattle.carrier_model.specs.Steps.{carried}
 use Rattle.unit_plan.specs.declared.place.Place.{Place}
 use Rattle.unit_plan.specs.Shapes.{shape_of}
 use Rattle.unit_plan.specs.Places.{shape_in}
 use Rattle.wave_model.specs.Fields.{fields}
 use Rattle.wave_model.specs.Large.{all_sizes, large_by, too_large}
-use Rattle.wave_model.proofs.Items.{items_fine}
+use Rattle.wave_model.proofs.Items.{HasNeither, items_fine}
 use Rattle.wave_model.proofs.Values.{ItemsFine}
 use Rattle.wave_file.specs.declared.map.WaveMap.{WaveMap}
 use Rattle.wave_file.specs.Map.{IsMapOf}
@@ -38,11 +39,12 @@ use Rattle.edit_planner.specs.Plan.{IsReady}
 pub holds_back : (old new : Disk) (b : List ℕ) → ReadsOnly old new → Holds new b → Holds old b
 holds_back old new b reads h = record { tells = subst IsTrue reads.tells h.tells; bytes = ap bytes_of (sym reads.main) ∙ h.bytes }
 
-no_movie : (kind : Kind) → is_wave kind ≡ true → is_movie kind ≡ false
-no_movie Wave e = refl
-no_movie Rf64 e = refl
-no_movie Avi e = absurd cc
-no_movie Mov e = absurd cc
+has_neither : (kind : Kind) → is_wave kind ≡ true → HasNeither kind
+has_neither Wave e = (refl, refl)
+has_neither Rf64 e = (refl, refl)
+has_neither Bw64 e = (refl, refl)
+has_neither Avi e = absurd cc
+has_neither Mov e = absurd cc
 
 fine_changes : (cs : List RawChange) → ItemsFine (raw_items_of cs) → AreFine cs
 fine_changes [] h = tt
@@ -50,7 +52,7 @@ fine_changes (c ∷ cs) h = (h.0, fine_changes cs h.1)
 
 pub are_fine : (kind : Kind) (f : FieldMap) (e : List EditItem) (cs xs : List RawChange) → is_wave kind ≡ true → IsReady kind f e → raw_items_of cs ≡ raw_items f e → xs ≡ cs → AreFine xs
 are_fine kind f e cs xs wave ready is same =
-    subst AreFine (sym same) (fine_changes cs (subst ItemsFine (sym is) (items_fine kind f e (no_movie kind wave) ready.keeps_rules)))
+    subst AreFine (sym same) (fine_changes cs (subst ItemsFine (sym is) (items_fine kind f e (has_neither kind wave) ready.keeps_rules)))
 
 same_fields : (b : List ℕ) (m : WaveMap) → IsMapOf b m → values m.fields ≡ fields b
 same_fields b m h = fun_ext h.field_values

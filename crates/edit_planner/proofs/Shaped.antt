@@ -14,7 +14,7 @@ use Rattle.container_model.specs.Windows.{window}
 use Rattle.container_model.specs.Written.{slice}
 use Rattle.container_model.specs.Walk.{along}
 use Rattle.carrier_model.specs.Info.{is_padding, list_run}
-use Rattle.carrier_model.specs.Large.{first_above}
+use Rattle.part_tree.specs.Large.{first_above}
 use Rattle.carrier_model.proofs.Cells.{Gaps}
 use Rattle.carrier_model.proofs.Info.{padding_no_list}
 use Rattle.info_list.specs.Info.{item_of}
@@ -22,14 +22,15 @@ use Rattle.wave_model.specs.Wave.{Wave, wave_of, inner, spell_wave, sizes_of, fi
 use Rattle.wave_model.specs.Fields.{is_bext, is_info}
 use Rattle.wave_model.specs.Edited.{Supported}
 use Rattle.wave_model.specs.New.{children_at}
-use Rattle.wave_model.specs.Carry.{Step, carried}
-use Rattle.wave_model.proofs.Again.{field_of, spelled, field_len}
+use Rattle.carrier_model.specs.Steps.{Step, carried}
+use Rattle.wave_model.proofs.Again.{spelled}
+use Rattle.carrier_model.proofs.RiffForm.{field_of, field_len}
 use Rattle.wave_model.proofs.Cells.{was_cells, gaps_cells}
 use Rattle.wave_model.proofs.Edited.{kind_len}
 use Rattle.wave_model.proofs.Form.{spelled_is, old_form, old_fine}
 use Rattle.wave_model.proofs.Map.{head_len, body_there}
 use Rattle.wave_model.proofs.Read.{most, OfRiff, IsRead}
-use Rattle.wave_model.proofs.Steps.{was_carried, gaps_carried}
+use Rattle.carrier_model.proofs.Steps.{was_carried, gaps_carried}
 use Rattle.wave_file.specs.Map.{Ascend, all_parts, at_front, part_as, part_at, role_of, sizes_at}
 use Rattle.unit_plan.specs.Shapes.{Shape, stays, pads, changes, parts_in, shape_of}
 use Rattle.unit_plan.specs.Places.{Follow, shape_in}
@@ -157,7 +158,7 @@ behind_told b [] cs at e lt s =
 behind_told b (d ∷ ds) cs at e lt s = later_told b at cs (lt d ds refl) s
 
 pub cells_told : (b : List ℕ) (s : Split b) → told_row (children_at (wave_of b)) (cells_of (wave_of b)) ≡ told_chunks (children_at (wave_of b)) (wave_of b).children
-cells_told b s = behind_told b (wave_of b).ds64 (wave_of b).children (children_at (wave_of b)) refl s.later (children_stand b s)
+cells_told b s = behind_told b (wave_of b).ds64 (wave_of b).children (children_at (wave_of b)) (omega arith) s.later (children_stand b s)
 
 map_unedited : (cs : List Chunk) → Unedited (map cell_of cs)
 map_unedited [] = tt
@@ -281,8 +282,15 @@ starts_by : (ds cs : List Chunk) → (ds ≡ []) ⊎ ((d : Chunk) × (ds ≡ d �
 starts_by ds cs (inl e) = subst (λ (xs : List Chunk). Starts xs cs (along sizes_at 12 xs ++ along part_at (12 + length (spell_all xs)) cs)) (sym e) (starts_none cs)
 starts_by ds cs (inr e) = subst (λ (xs : List Chunk). Starts xs cs (along sizes_at 12 xs ++ along part_at (12 + length (spell_all xs)) cs)) (sym e.1) (starts_one e.0 cs)
 
+-- where the chunks behind ds64 begin
+pub children_place : (w : Wave) → children_at w ≡ 12 + length (spell_all w.ds64)
+children_place w = omega arith
+
 pub starts_told : (b : List ℕ) (ps : List Part) → ps ≡ all_parts (wave_of b) → Starts (wave_of b).ds64 (wave_of b).children ps
-starts_told b ps e = subst (Starts (wave_of b).ds64 (wave_of b).children) (sym e) (starts_by (wave_of b).ds64 (wave_of b).children (firsts_short (is_big (take 4 b)) (Rattle.wave_model.specs.Wave.form_run b).chunks))
+starts_told b ps e =
+    let w = wave_of b in
+    let all = e ∙ ap (λ (n : ℕ). along sizes_at 12 w.ds64 ++ along part_at n w.children) (children_place w) in
+    subst (Starts w.ds64 w.children) (sym all) (starts_by w.ds64 w.children (firsts_short (is_big (take 4 b)) (Rattle.wave_model.specs.Wave.form_run b).chunks))
 
 -- whatever the file
 pub ascend_from : (ps : List Part) (end : ℕ) → Ascend 12 ps end → Ascend (begins_at ps) (drop (first_child ps) ps) end × (12 ≤ begins_at ps)
@@ -313,8 +321,8 @@ row_told b e r before cells parts ps n bytes sup all begin slice from load edit 
     let w = wave_of b in
     let s = split_of b bytes sup in
     let st = starts_told b parts all in
-    let here : n ≡ children_at w = begin ∙ st.begin in
-    let rest : ps ≡ along part_at n w.children = slice ∙ st.rest ∙ ap (λ (m : ℕ). along part_at m w.children) (sym here) in
+    let here : n ≡ children_at w = begin ∙ st.begin ∙ sym (children_place w) in
+    let rest : ps ≡ along part_at n w.children = slice ∙ st.rest ∙ ap (λ (m : ℕ). along part_at m w.children) (sym (children_place w) ∙ sym here) in
     let loaded : before ≡ told_chunks n w.children = load w.children rest (subst (λ (m : ℕ). StandFrom b m w.children) (sym here) (children_stand b s)) in
     let row : before ≡ told_row n (cells_of w) = loaded ∙ ap (λ (m : ℕ). told_chunks m w.children) here ∙ sym (cells_told b s) ∙ ap (λ (m : ℕ). told_row m (cells_of w)) (sym here) in
     let done : cells ≡ told_row (children_at w) (carried (steps e) (cells_of w)) = edit (cells_of w) (cells_unedited w.ds64 w.children) row ∙ ap (λ (m : ℕ). told_row m (carried (steps e) (cells_of w))) here in
@@ -330,7 +338,7 @@ before_told b before parts ps n bytes sup all begin slice load =
     let w = wave_of b in
     let s = split_of b bytes sup in
     let st = starts_told b parts all in
-    let here : n ≡ children_at w = begin ∙ st.begin in
-    let rest : ps ≡ along part_at n w.children = slice ∙ st.rest ∙ ap (λ (m : ℕ). along part_at m w.children) (sym here) in
+    let here : n ≡ children_at w = begin ∙ st.begin ∙ sym (children_place w) in
+    let rest : ps ≡ along part_at n w.children = slice ∙ st.rest ∙ ap (λ (m : ℕ). along part_at m w.children) (sym (children_place w) ∙ sym here) in
     let loaded : before ≡ told_chunks n w.children = load w.children rest (subst (λ (m : ℕ). StandFrom b m w.children) (sym here) (children_stand b s)) in
     loaded ∙ ap (λ (m : ℕ). told_chunks m w.children) here ∙ sym (cells_told b s) ∙ ap (λ (m : ℕ). told_row m (cells_of w)) (sym here)

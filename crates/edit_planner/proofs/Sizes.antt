@@ -10,7 +10,7 @@ use Rattle.container_model.specs.Deep.{Token}
 use Rattle.container_model.specs.Items.{Item, edit_carrier}
 use Rattle.carrier_model.specs.Cells.{Change, leave, become, changed, settle, behind, never, acted}
 use Rattle.carrier_model.specs.Info.{info, info_items}
-use Rattle.carrier_model.specs.Large.{Size, limited, first_above}
+use Rattle.part_tree.specs.Large.{Size, limited, first_above}
 use Rattle.carrier_model.specs.Lists.{home, items_of, all_items, concerns, part_of, edit_nth, has_carrier, sets_some, new_carrier, lists_act, lists_act_by}
 use Rattle.wave_model.specs.Fields.{bodies, is_bext, is_info}
 use Rattle.wave_model.specs.Carry.{some_chunk}

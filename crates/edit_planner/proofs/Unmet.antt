@@ -17,8 +17,9 @@ use Rattle.carrier_model.specs.Lists.{items_of, all_items, home, concerns, has_c
 use Rattle.carrier_model.specs.Info.{one_of, made, info, info_items}
 use Rattle.carrier_model.proofs.Cells.{Makes, made_by}
 use Rattle.wave_model.specs.Fields.{is_bext, is_info, is_whole}
-use Rattle.wave_model.specs.Carry.{Step, steps, info_part, bext_act, bext_by, edits_bext, first_becomes, whole_by, whole_act, whole_part, some_chunk, carried}
-use Rattle.wave_model.proofs.Steps.{NowCells, now_carried}
+use Rattle.wave_model.specs.Carry.{steps, info_part, bext_act, bext_by, edits_bext, first_becomes, whole_by, whole_act, whole_part, some_chunk}
+use Rattle.carrier_model.specs.Steps.{Step, carried}
+use Rattle.carrier_model.proofs.Steps.{NowCells, now_carried}
 use Rattle.edit_planner.specs.declared.cells.CellAt.{CellAt}
 use Rattle.edit_planner.specs.Cells.{NoWholes, Unedited, Unmet, told_row}
 

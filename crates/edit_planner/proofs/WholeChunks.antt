@@ -5,7 +5,7 @@ use Rattle.std.specs.Str.{bytes_eq}
 use Rattle.std.specs.List.{flat_map}
 use Rattle.std.proofs.lemmas.List.{append-nil, map-append, take_more}
 use Rattle.part_tree.specs.declared.field.FieldName.{FieldName}
-use Rattle.part_tree.specs.declared.field.FieldName.TheVariants.{Bext, Info, Whole, User}
+use Rattle.part_tree.specs.declared.field.FieldName.TheVariants.{Bext, Info, Whole, User, Key, Stream}
 use Rattle.part_tree.specs.declared.field.Value.{Value}
 use Rattle.part_tree.specs.Names.{whole_ids}
 use Rattle.container_model.specs.Chunk.{Chunk, spell, spell_all}
@@ -174,5 +174,5 @@ small_at w (c ∷ cs) zero x d h lt e n = rw e (small_as c.name c.value h.0 (ap 
     small_as (Bext field) (Some v) h n = absurd cc
     small_as (Info id) (Some v) h n = absurd cc
     small_as (Whole id) (Some v) h n = omega (arith, h.1)
-    small_as (User id) (Some v) h n = absurd cc
+    small_as other (Some v) h n = absurd cc
 small_at w (c ∷ cs) (suc k) x d h lt e n = small_at w cs k x d h.1 (omega arith) e n

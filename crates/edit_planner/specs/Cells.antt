@@ -79,7 +79,7 @@ IsFine (name.Info id) None = Unit {0}
 IsFine (name.Info id) (Some v) = v.lang ≡ 0
 IsFine (name.Whole id) None = Unit {0}
 IsFine (name.Whole id) (Some v) = (v.lang ≡ 0) × (length v.raw ≤ 2 ^ 24)
-IsFine (name.User id) value = ⊥
+IsFine _ value = ⊥
 
 -- the same of each change
 abbrev pub AreFine : List RawChange → Type 0

@@ -1,5 +1,6 @@
 pub mod Cells
 pub mod Row
+pub mod Kinds
 pub mod Lists
 pub mod Stand
 pub mod Places

@@ -8,7 +8,7 @@ use Rattle.container_model.specs.Chunk.{Chunk, spell_all}
 use Rattle.container_model.specs.Deep.{Token}
 use Rattle.container_model.specs.Items.{Item, has_mark, put_all}
 use Rattle.carrier_model.specs.Info.{info_items, list_of, one_of}
-use Rattle.carrier_model.specs.Large.{Size, limited, first_above}
+use Rattle.part_tree.specs.Large.{Size, limited, first_above}
 use Rattle.carrier_model.specs.Lists.{some_hold, first_holder, sets_some}
 use Rattle.wave_model.specs.Fields.{is_info}
 use Rattle.unit_plan.specs.Shapes.{parts_in}

@@ -6,8 +6,9 @@ use Rattle.part_tree.specs.declared.part.Role.{Role}
 use Rattle.part_tree.specs.declared.part.Role.TheVariants.{Sizes}
 use Rattle.field_model.specs.Update.{RawItem}
 use Rattle.wave_model.specs.Wave.{wave_of, cells_of}
-use Rattle.wave_model.specs.Carry.{carried, steps}
-use Rattle.carrier_model.specs.Large.{Size, limited, first_above}
+use Rattle.wave_model.specs.Carry.{steps}
+use Rattle.carrier_model.specs.Steps.{carried}
+use Rattle.part_tree.specs.Large.{Size, limited, first_above}
 use Rattle.wave_model.specs.Fields.{bodies, is_info}
 use Rattle.wave_model.specs.New.{children_at, new_children}
 use Rattle.unit_plan.specs.Shapes.{shape_of}

@@ -31,4 +31,4 @@ fields_in (Wave m) = values m.fields
 pub record IsReady (kind : Kind) (f : FieldMap) (e : List EditItem) : Type 0 where
   pub changes_all : effective f e ≡ e
   pub changes_some : 0 < length e
-  pub keeps_rules : broken kind f e Base ≡ None
+  pub keeps_rules : broken kind 0 f e Base ≡ None

@@ -5,7 +5,8 @@ ghost use Rattle.container_model.specs.Units.{Cell, live};
 ghost use Rattle.wave_model.specs.Fields.{bodies, is_info};
 ghost use Rattle.edit_planner.specs.Lists.{SmallLists, TellsLarge, lengths};
 ghost use Rattle.bext_fields.specs.Change.{raw_items_of};
-ghost use Rattle.wave_model.specs.Carry.{carried, steps};
+ghost use Rattle.wave_model.specs.Carry.{steps};
+ghost use Rattle.carrier_model.specs.Steps.{carried};
 ghost use Rattle.edit_planner.specs.Cells.{AreFine, AreReadable, Follow, Unedited, told_row};
 
 use crate::bext::edit_bext;

@@ -2,9 +2,14 @@
 //! It knows the kinds of files that are edited, and no device.
 #![tactic(auto)]
 
+ghost use Rattle.std.specs.Prelude.{ℕ, List};
+ghost use Rattle.field_model.specs.Kind.{IsKind};
+ghost use Rattle.edit_planner.specs.Kinds.{model_in};
+
 mod bext;
 mod cells;
 mod edit;
+mod kinds;
 mod lists;
 mod load;
 mod places;
@@ -14,6 +19,13 @@ mod tests;
 mod wave;
 mod wholes;
 
+pub use kinds::read;
+pub use part_tree::PlanFault;
 pub use plans::{FileMap, plan};
 pub use wave::{PlaceFault, PlaceRow, places_of};
-pub use wave_plan::PlanFault;
+
+/// What a file is read as, by its first bytes, is always a kind of files: an accepted edit that isn't too large makes the old
+/// file edited.
+pub fn each_file_is_of_a_kind()
+    ensures { (o : List ℕ) → IsKind (model_in o) }
+{}

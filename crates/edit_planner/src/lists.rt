@@ -7,7 +7,7 @@ ghost use Rattle.container_model.specs.Deep.{Token};
 ghost use Rattle.container_model.specs.Items.{has_mark, put_all};
 ghost use Rattle.carrier_model.specs.Cells.{acted, acted_cells, never};
 ghost use Rattle.carrier_model.specs.Info.{info, info_items, list_of};
-ghost use Rattle.carrier_model.specs.Large.{limited};
+ghost use Rattle.part_tree.specs.Large.{limited};
 ghost use Rattle.carrier_model.specs.Lists.{home, lists_act, sets_some, some_hold};
 ghost use Rattle.bext_fields.specs.Change.{raw_items_of};
 ghost use Rattle.info_list.specs.Changes.{changes_of};

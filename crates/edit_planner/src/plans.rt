@@ -5,20 +5,22 @@ ghost use Rattle.me_disk.specs.Causes.{Rose};
 ghost use Rattle.me_disk.specs.Steps.{ReadsOnly};
 ghost use Rattle.me_disk.specs.Holds.{Holds};
 ghost use Rattle.part_tree.specs.Fields.{values};
-ghost use Rattle.field_model.specs.Broken.{is_wave};
+ghost use Rattle.field_model.specs.KindFacts.{is_wave};
+ghost use Rattle.field_model.specs.KindReads.{PlansKind};
 ghost use Rattle.part_tree.specs.Plans.{Belongs, CanRun};
 ghost use Rattle.wave_file.specs.Map.{IsMapOf, IsSound};
 ghost use Rattle.wave_plan.specs.Frame.{IsFormOf, IsSoundForm};
 ghost use Rattle.wave_plan.specs.Planned.{PlansEdit};
+ghost use Rattle.edit_planner.specs.Kinds.{model_in};
 ghost use Rattle.edit_planner.specs.Plan.{IsReady, Maps, SoundMap, fields_in, kind_in};
 
 use crate::wave::{PlaceFault, places_of};
 use core_edit::{Edit, raw_changes};
 use me_disk::Depot;
-use part_tree::{Kind, Plan};
+use part_tree::{Kind, Plan, PlanFault};
 use std::alloc::Global;
 use wave_file::WaveMap;
-use wave_plan::{FormAt, PlanFault, plan_row};
+use wave_plan::{FormAt, plan_row};
 
 const MOST_BYTES: u64 = 16_777_216;
 
@@ -28,12 +30,12 @@ pub enum FileMap {
     Wave(WaveMap),
 }
 
-// Whether a kind is WAVE or RF64.
+// Whether a kind is of type WAVE.
 fn is_wave(kind: Kind) -> bool
     ensures { result ≡ is_wave kind }
 {
     match kind {
-        Kind::Wave | Kind::Rf64 => true,
+        Kind::Wave | Kind::Rf64 | Kind::Bw64 => true,
         _ => false,
     }
 }
@@ -64,6 +66,7 @@ pub fn plan<D: Depot>(
     requires sound { SoundMap file.now }
     requires ready { IsReady (kind_in file.now) (fields_in file.now) edit.now }
     ensures plans { (b : List ℕ) → Holds (D.disk depot.old) b → IsBytes b → PlansEdit b edit.now result }
+    ensures of_kind { (b : List ℕ) → Holds (D.disk depot.old) b → IsBytes b → PlansKind (model_in b) b edit.now result }
     ensures can { IfOk result (λ p. CanRun p) }
     ensures belongs { (b : List ℕ) → Holds (D.disk depot.old) b → IfOk result (λ p. Belongs p b) }
     ensures reads { ReadsOnly (D.disk depot.old) (D.disk depot.new) }

@@ -1,7 +1,7 @@
 // Worked rows: a run on a file, and what it is to answer, print, write and leave.
 use crate::runs::{Ran, depot_of, holds, run_told};
 use me_disk::MemoryDepot;
-use metaedit_top::{Outcome, Summary, code, line_of};
+use metaedit_top::{Outcome, code, line_of};
 use part_tree::NoMemory;
 use std::alloc::Global;
 
@@ -22,12 +22,11 @@ impl<'a> Held<'a> {
     }
 }
 
-/// A run, and what it is to answer, tell, print, write and leave.
+/// A run, and what it is to tell, print, write and leave.
 #[derive(Clone, Copy)]
 pub struct Row<'a> {
     pub words: &'a [&'a str],
     pub before: Held<'a>,
-    pub outcome: Outcome,
     pub status: u8,
     pub line: &'a str,
     pub printed: &'a str,
@@ -36,17 +35,11 @@ pub struct Row<'a> {
 }
 
 impl<'a> Row<'a> {
-    /// A run that is done with a file, and leaves it as it is until `with` says otherwise.
-    pub fn done(
-        words: &'a [&'a str],
-        file: &'a [u8],
-        summary: Summary,
-        printed: &'a str,
-    ) -> Row<'a> {
+    /// A run that is done with a file, and leaves it as it is.
+    pub fn done(words: &'a [&'a str], file: &'a [u8], printed: &'a str) -> Row<'a> {
         Row {
             words,
             before: Held::alone(file),
-            outcome: Outcome::Done(summary),
             status: 0,
             line: "",
             printed,
@@ -56,17 +49,10 @@ impl<'a> Row<'a> {
     }
 
     /// A run that is refused, and leaves the file as it is.
-    pub fn refused(
-        words: &'a [&'a str],
-        file: &'a [u8],
-        outcome: Outcome,
-        status: u8,
-        line: &'a str,
-    ) -> Row<'a> {
+    pub fn refused(words: &'a [&'a str], file: &'a [u8], status: u8, line: &'a str) -> Row<'a> {
         Row {
             words,
             before: Held::alone(file),
-            outcome,
             status,
             line,
             printed: "",
@@ -75,29 +61,49 @@ impl<'a> Row<'a> {
         }
     }
 
-    /// The same run, with the status 1 where it has findings.
-    pub fn with_status(self, has_findings: bool) -> Row<'a> {
+    /// A run that is done with a file and leaves it as it is, with the status 1 where it has findings.
+    pub fn finding(
+        words: &'a [&'a str],
+        file: &'a [u8],
+        printed: &'a str,
+        has_findings: bool,
+    ) -> Row<'a> {
         Row {
+            words,
+            before: Held::alone(file),
             status: u8::from(has_findings),
-            ..self
+            line: "",
+            printed,
+            written: 0,
+            after: Held::alone(file),
         }
     }
 
-    /// The same run that writes so many bytes, and leaves this file.
-    pub fn leaving(self, file: &'a [u8], written: u64) -> Row<'a> {
+    /// A run that is done with a file, writes so many bytes, and leaves another one.
+    pub fn leaving(
+        words: &'a [&'a str],
+        file: &'a [u8],
+        printed: &'a str,
+        left: &'a [u8],
+        written: u64,
+    ) -> Row<'a> {
         Row {
+            words,
+            before: Held::alone(file),
+            status: 0,
+            line: "",
+            printed,
             written,
-            after: Held::alone(file),
-            ..self
+            after: Held::alone(left),
         }
     }
 }
 
-/// Whether the run goes as the row says.
-pub fn goes(alloc: Global, row: &Row<'_>) -> Result<bool, NoMemory> {
+/// Whether the run answers this and goes as the row says.
+pub fn goes(alloc: Global, row: &Row<'_>, outcome: &Outcome) -> Result<bool, NoMemory> {
     let mut depot = depot_of(alloc, row.before.main, row.before.journal, &[])?;
     let ran = run_told(alloc, row.words, &mut depot)?;
-    Ok(ran.outcome == row.outcome && is_told(alloc, &ran, row)? && is_left(&depot, row))
+    Ok(ran.outcome == *outcome && is_told(alloc, &ran, row)? && is_left(&depot, row))
 }
 
 // Whether the status, the line and the report are those of the row.

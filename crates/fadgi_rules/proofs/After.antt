@@ -7,7 +7,7 @@ use Rattle.part_tree.specs.declared.field.Change.{Change}
 use Rattle.part_tree.specs.declared.field.Change.TheVariants.{Set, Remove}
 use Rattle.part_tree.specs.declared.field.EditItem.{EditItem}
 use Rattle.part_tree.specs.declared.field.FieldName.{FieldName}
-use Rattle.part_tree.specs.declared.field.FieldName.TheVariants.{Bext, Info, Whole, User}
+use Rattle.part_tree.specs.declared.field.FieldName.TheVariants.{Bext, Info, Whole, User, Key, Stream}
 use Rattle.part_tree.specs.declared.field.Value.{Value}
 use Rattle.part_tree.specs.Names.{same_name}
 use Rattle.part_tree.proofs.Places.{same_is_equal}
@@ -45,6 +45,8 @@ keeps (Bext field) Remove = refl
 keeps (Info id) Remove = refl
 keeps (Whole id) Remove = refl
 keeps (User id) Remove = refl
+keeps (Key k) Remove = refl
+keeps (Stream n) Remove = refl
 
 -- a name that no item names keeps its values
 unnamed : (f : FieldMap) (e : List EditItem) (name : FieldName) (vs : List Value) → names_one name e ≡ false → updated_values (raw_items f e) name vs ≡ vs

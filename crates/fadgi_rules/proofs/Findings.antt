@@ -22,14 +22,14 @@ use Rattle.fadgi_rules.specs.Items.{item_tests, found}
 use Rattle.fadgi_rules.specs.Rows.{number, set_of, fields_of, fails, first_in, LooksAt}
 use Rattle.fadgi_rules.proofs.Items.{tests_find, find_rest}
 
-all_findings : (kind : Kind) (f : FieldMap) (e : List EditItem) (sets : RuleSet) → findings kind f e sets ≡ tests_find 1 (item_tests kind) (effective f e) (field_findings FIELD_RULES kind f e sets)
-all_findings kind f e Base = refl
-all_findings kind f e Ebu = refl
-all_findings kind f e set.Info = refl
-all_findings kind f e Fadgi = refl
+all_findings : (kind : Kind) (streams : ℕ) (f : FieldMap) (e : List EditItem) (sets : RuleSet) → findings kind streams f e sets ≡ tests_find 1 (item_tests kind streams) (effective f e) (field_findings FIELD_RULES kind f e sets)
+all_findings kind streams f e Base = refl
+all_findings kind streams f e Ebu = refl
+all_findings kind streams f e set.Info = refl
+all_findings kind streams f e Fadgi = refl
 
-joined : (kind : Kind) (f : FieldMap) (e : List EditItem) (sets : RuleSet) → findings kind f e sets ≡ findings kind f e Base ++ field_findings FIELD_RULES kind f e sets
-joined kind f e sets = all_findings kind f e sets ∙ find_rest 1 (item_tests kind) (effective f e) (field_findings FIELD_RULES kind f e sets)
+joined : (kind : Kind) (streams : ℕ) (f : FieldMap) (e : List EditItem) (sets : RuleSet) → findings kind streams f e sets ≡ findings kind streams f e Base ++ field_findings FIELD_RULES kind f e sets
+joined kind streams f e sets = all_findings kind streams f e sets ∙ find_rest 1 (item_tests kind streams) (effective f e) (field_findings FIELD_RULES kind f e sets)
 
 none_found : (bs : List Broken) → first_found bs ≡ None → bs ≡ []
 none_found [] h = refl
@@ -40,16 +40,16 @@ first_stays [] bs b h = absurd cc
 first_stays (a ∷ xs) bs b h = h
 
 -- where items break a rule, the first of them is the first of all
-pub items_first : (kind : Kind) (f : FieldMap) (e : List EditItem) (sets : RuleSet) (b : Broken) → broken kind f e Base ≡ Some b → broken kind f e sets ≡ Some b
-items_first kind f e sets b h = ap first_found (joined kind f e sets) ∙ first_stays (findings kind f e Base) (field_findings FIELD_RULES kind f e sets) b h
+pub items_first : (kind : Kind) (streams : ℕ) (f : FieldMap) (e : List EditItem) (sets : RuleSet) (b : Broken) → broken kind streams f e Base ≡ Some b → broken kind streams f e sets ≡ Some b
+items_first kind streams f e sets b h = ap first_found (joined kind streams f e sets) ∙ first_stays (findings kind streams f e Base) (field_findings FIELD_RULES kind f e sets) b h
 
 -- where they break none, the rules on fields find all
-pub fields_find : (kind : Kind) (f : FieldMap) (e : List EditItem) (sets : RuleSet) → broken kind f e Base ≡ None → findings kind f e sets ≡ field_findings FIELD_RULES kind f e sets
-fields_find kind f e sets h = joined kind f e sets ∙ ap (λ (bs : List Broken). bs ++ field_findings FIELD_RULES kind f e sets) (none_found (findings kind f e Base) h)
+pub fields_find : (kind : Kind) (streams : ℕ) (f : FieldMap) (e : List EditItem) (sets : RuleSet) → broken kind streams f e Base ≡ None → findings kind streams f e sets ≡ field_findings FIELD_RULES kind f e sets
+fields_find kind streams f e sets h = joined kind streams f e sets ∙ ap (λ (bs : List Broken). bs ++ field_findings FIELD_RULES kind f e sets) (none_found (findings kind streams f e Base) h)
 
 -- an edit without items breaks none of the rules on items
-pub empty_fine : (kind : Kind) (f : FieldMap) → broken kind f [] Base ≡ None
-empty_fine kind f = refl
+pub empty_fine : (kind : Kind) (streams : ℕ) (f : FieldMap) → broken kind streams f [] Base ≡ None
+empty_fine kind streams f = refl
 
 -- ---- the rules one after the other
 

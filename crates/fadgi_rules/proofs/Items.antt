@@ -101,14 +101,14 @@ nothing : (n : ℕ) (ts : List ItemTest) → first_found (tests_find n ts [] [])
 nothing n [] = refl
 nothing n (t ∷ ts) = nothing (suc n) ts
 
-all_items : (kind : Kind) (f : FieldMap) (e : List EditItem) → items_broken kind f e ≡ first_found (tests_find 1 (item_tests kind) (effective f e) [])
-all_items kind f [] = sym (nothing 1 (item_tests kind))
-all_items kind f (x ∷ e) = go (has_effect f x) (all_items kind f e)
+all_items : (kind : Kind) (streams : ℕ) (f : FieldMap) (e : List EditItem) → items_broken kind streams f e ≡ first_found (tests_find 1 (item_tests kind streams) (effective f e) [])
+all_items kind streams f [] = sym (nothing 1 (item_tests kind streams))
+all_items kind streams f (x ∷ e) = go (has_effect f x) (all_items kind streams f e)
   where
-    go : (b : Bool) → items_broken kind f e ≡ first_found (tests_find 1 (item_tests kind) (effective f e) []) → first_of_two (cond b (option_map (λ k. found k x.name) (item_rule kind x)) None) (items_broken kind f e) ≡ first_found (tests_find 1 (item_tests kind) (cond b (x ∷ effective f e) (effective f e)) [])
-    go true h = ap (first_of_two (option_map (λ k. found k x.name) (item_rule kind x))) h ∙ sym (one_more 1 (item_tests kind) x (effective f e))
+    go : (b : Bool) → items_broken kind streams f e ≡ first_found (tests_find 1 (item_tests kind streams) (effective f e) []) → first_of_two (cond b (option_map (λ k. found k x.name) (item_rule kind streams x)) None) (items_broken kind streams f e) ≡ first_found (tests_find 1 (item_tests kind streams) (cond b (x ∷ effective f e) (effective f e)) [])
+    go true h = ap (first_of_two (option_map (λ k. found k x.name) (item_rule kind streams x))) h ∙ sym (one_more 1 (item_tests kind streams) x (effective f e))
     go false h = h
 
 -- what the model finds first for the basic rules is the first that some item breaks
-pub items_are_broken : (kind : Kind) (f : FieldMap) (e : List EditItem) → items_broken kind f e ≡ broken kind f e Base
-items_are_broken kind f e = all_items kind f e
+pub items_are_broken : (kind : Kind) (streams : ℕ) (f : FieldMap) (e : List EditItem) → items_broken kind streams f e ≡ broken kind streams f e Base
+items_are_broken kind streams f e = all_items kind streams f e

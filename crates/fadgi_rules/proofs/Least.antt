@@ -10,7 +10,7 @@ use Rattle.part_tree.specs.declared.field.EditItem.{EditItem}
 use Rattle.part_tree.specs.declared.field.FieldName.{FieldName}
 use Rattle.part_tree.specs.declared.field.FieldName.TheVariants.{Bext}
 use Rattle.part_tree.specs.declared.names.Kind.{Kind}
-use Rattle.field_model.specs.Broken.{has_field}
+use Rattle.field_model.specs.KindFacts.{has_field}
 use Rattle.field_model.specs.Dates.{is_date, is_time}
 use Rattle.field_model.specs.Rules.{TextRule, text_rules, text_rule}
 use Rattle.fadgi_rules.specs.Items.{text_test, least_from, item_rule}
@@ -78,8 +78,8 @@ time_told text = ap (is_none {T = ℕ}) (sym (least_text 2 text_rules (Bext Orig
     go true = refl
     go false = refl
 
-pub set_rule : (kind : Kind) (i : EditItem) (text : List ℕ) → has_field kind i.name ≡ true → i.change ≡ Set text → text_rule i.name text ≡ item_rule kind i
-set_rule kind i text has is =
+pub set_rule : (kind : Kind) (streams : ℕ) (i : EditItem) (text : List ℕ) → has_field kind streams i.name ≡ true → i.change ≡ Set text → text_rule i.name text ≡ item_rule kind streams i
+set_rule kind streams i text has is =
     sym (least_text 2 text_rules i.name text)
     ∙ ap (λ (t : Bool). cond (not t) (Some 1) (least_from 2 (map text_test text_rules) (item i.name (Set text)))) (sym has)
-    ∙ ap (λ (change : Change). item_rule kind (item i.name change)) (sym is)
+    ∙ ap (λ (change : Change). item_rule kind streams (item i.name change)) (sym is)

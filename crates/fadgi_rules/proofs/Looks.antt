@@ -5,10 +5,10 @@ use Rattle.std.specs.List.{list_any}
 use Rattle.std.proofs.lemmas.Bool.{or_cases}
 use Rattle.part_tree.specs.declared.field.BextField.TheVariants.{Description, Originator, OriginatorReference, OriginationDate, OriginationTime, CodingHistory}
 use Rattle.part_tree.specs.declared.field.FieldName.{FieldName}
-use Rattle.part_tree.specs.declared.field.FieldName.TheVariants.{Bext, Info, Whole, User}
+use Rattle.part_tree.specs.declared.field.FieldName.TheVariants.{Bext, Info, Whole, User, Key, Stream}
 use Rattle.part_tree.specs.declared.names.FourCc.{FourCc}
 use Rattle.part_tree.specs.declared.names.Kind.{Kind}
-use Rattle.part_tree.specs.declared.names.Kind.TheVariants.{Wave, Rf64, Avi, Mov}
+use Rattle.part_tree.specs.declared.names.Kind.TheVariants.{Wave, Rf64, Bw64, Avi, Mov}
 use Rattle.part_tree.specs.Letters.{four}
 use Rattle.part_tree.specs.Names.{same_name}
 use Rattle.part_tree.proofs.Places.{same_is_equal}
@@ -42,6 +42,16 @@ info_one (Whole w) ids h = absurd (go ids h)
 info_one (User w) ids h = absurd (go ids h)
   where
     go : (ids : List (List ℕ)) → list_any (same_name (User w)) (map (λ id. Info (four id)) ids) ≡ true → ⊥
+    go [] h = absurd cc
+    go (id ∷ ids) h = go ids h
+info_one (Key w) ids h = absurd (go ids h)
+  where
+    go : (ids : List (List ℕ)) → list_any (same_name (Key w)) (map (λ id. Info (four id)) ids) ≡ true → ⊥
+    go [] h = absurd cc
+    go (id ∷ ids) h = go ids h
+info_one (Stream w) ids h = absurd (go ids h)
+  where
+    go : (ids : List (List ℕ)) → list_any (same_name (Stream w)) (map (λ id. Info (four id)) ids) ≡ true → ⊥
     go [] h = absurd cc
     go (id ∷ ids) h = go ids h
 
@@ -81,13 +91,16 @@ looks_texted row.End name kind on h = absurd on
 looks_texted row.Created name kind on h = is_texted (Info (four (codes "ICRD"))) name tt (one name (Info (four (codes "ICRD"))) h)
 looks_texted row.HasDescription name Wave on h = is_texted (Bext Description) name tt (one name (Bext Description) h)
 looks_texted row.HasDescription name Rf64 on h = is_texted (Bext Description) name tt (one name (Bext Description) h)
+looks_texted row.HasDescription name Bw64 on h = is_texted (Bext Description) name tt (one name (Bext Description) h)
 looks_texted row.HasDescription name Avi on h = is_texted (Info (four (codes "INAM"))) name tt (one name (Info (four (codes "INAM"))) h)
 looks_texted row.HasDescription name Mov on h = is_texted (User (four (169 ∷ codes "nam"))) name tt (one name (User (four (169 ∷ codes "nam"))) h)
 looks_texted row.HasOriginator name Wave on h = is_texted (Bext Originator) name tt (one name (Bext Originator) h)
 looks_texted row.HasOriginator name Rf64 on h = is_texted (Bext Originator) name tt (one name (Bext Originator) h)
+looks_texted row.HasOriginator name Bw64 on h = is_texted (Bext Originator) name tt (one name (Bext Originator) h)
 looks_texted row.HasOriginator name Avi on h = is_texted (Info (four (codes "IARL"))) name tt (one name (Info (four (codes "IARL"))) h)
 looks_texted row.HasOriginator name Mov on h = absurd cc
 looks_texted row.HasDate name Wave on h = is_texted (Bext OriginationDate) name tt (one name (Bext OriginationDate) h)
 looks_texted row.HasDate name Rf64 on h = is_texted (Bext OriginationDate) name tt (one name (Bext OriginationDate) h)
+looks_texted row.HasDate name Bw64 on h = is_texted (Bext OriginationDate) name tt (one name (Bext OriginationDate) h)
 looks_texted row.HasDate name Avi on h = is_texted (Info (four (codes "ICRD"))) name tt (one name (Info (four (codes "ICRD"))) h)
 looks_texted row.HasDate name Mov on h = is_texted (User (four (169 ∷ codes "day"))) name tt (one name (User (four (169 ∷ codes "day"))) h)

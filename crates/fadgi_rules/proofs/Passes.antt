@@ -16,8 +16,8 @@ use Rattle.fadgi_rules.proofs.Items.{items_are_broken}
 abbrev pub Passes : List ItemTest → EditItem → Type 0
 Passes tests item = AllByRecursion (λ fails. fails item ≡ false) tests
 
-abbrev pub EffectsPass : Kind → FieldMap → List EditItem → Type 0
-EffectsPass kind f e = AllByRecursion (λ item. has_effect f item ≡ true → Passes (item_tests kind) item) e
+abbrev pub EffectsPass : Kind → ℕ → FieldMap → List EditItem → Type 0
+EffectsPass kind streams f e = AllByRecursion (λ item. has_effect f item ≡ true → Passes (item_tests kind streams) item) e
 
 no_least : (n : ℕ) (tests : List ItemTest) (item : EditItem) → option_map (λ k. found k item.name) (least_from n tests item) ≡ None → Passes tests item
 no_least n [] item h = tt
@@ -37,12 +37,12 @@ neither (Some a) (Some b) h = go (comes_first a b) h
     go true h = absurd cc
     go false h = absurd cc
 
-each_passes : (kind : Kind) (f : FieldMap) (e : List EditItem) → items_broken kind f e ≡ None → EffectsPass kind f e
-each_passes kind f [] h = tt
-each_passes kind f (item ∷ e) h =
-    let both = neither (item_broken kind f item) (items_broken kind f e) h in
-    let found_none : Option Broken = option_map (λ k. found k item.name) (item_rule kind item) in
-    ((λ acts. no_least 1 (item_tests kind) item (sym (ap (λ (t : Bool). cond t found_none None) acts) ∙ both.0)), each_passes kind f e both.1)
+each_passes : (kind : Kind) (streams : ℕ) (f : FieldMap) (e : List EditItem) → items_broken kind streams f e ≡ None → EffectsPass kind streams f e
+each_passes kind streams f [] h = tt
+each_passes kind streams f (item ∷ e) h =
+    let both = neither (item_broken kind streams f item) (items_broken kind streams f e) h in
+    let found_none : Option Broken = option_map (λ k. found k item.name) (item_rule kind streams item) in
+    ((λ acts. no_least 1 (item_tests kind streams) item (sym (ap (λ (t : Bool). cond t found_none None) acts) ∙ both.0)), each_passes kind streams f e both.1)
 
-pub fine_passes : (kind : Kind) (f : FieldMap) (e : List EditItem) → broken kind f e Base ≡ None → EffectsPass kind f e
-fine_passes kind f e h = each_passes kind f e (items_are_broken kind f e ∙ h)
+pub fine_passes : (kind : Kind) (streams : ℕ) (f : FieldMap) (e : List EditItem) → broken kind streams f e Base ≡ None → EffectsPass kind streams f e
+fine_passes kind streams f e h = each_passes kind streams f e (items_are_broken kind streams f e ∙ h)

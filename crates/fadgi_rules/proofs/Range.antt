@@ -12,7 +12,7 @@ use Rattle.part_tree.specs.declared.field.Change.{Change}
 use Rattle.part_tree.specs.declared.field.Change.TheVariants.{Set, Remove}
 use Rattle.part_tree.specs.declared.field.EditItem.{EditItem}
 use Rattle.part_tree.specs.declared.field.FieldName.{FieldName}
-use Rattle.part_tree.specs.declared.field.FieldName.TheVariants.{Bext, Info, Whole, User}
+use Rattle.part_tree.specs.declared.field.FieldName.TheVariants.{Bext, Info, Whole, User, Key, Stream}
 use Rattle.part_tree.specs.declared.field.Value.{Value}
 use Rattle.part_tree.specs.declared.names.Kind.{Kind}
 use Rattle.part_tree.specs.Names.{same_name}
@@ -135,6 +135,8 @@ since_small (Bext CodingHistory) = omega arith
 since_small (Info id) = omega arith
 since_small (Whole id) = omega arith
 since_small (User id) = omega arith
+since_small (Key k) = omega arith
+since_small (Stream n) = omega arith
 
 max_small : (a b : ℕ) → a ≤ 2 → b ≤ 2 → max a b ≤ 2
 max_small a b ha hb = grind (arith, ha, hb)
@@ -185,16 +187,16 @@ needs_two f (item ∷ e) change i to raw is = go (same_name item.name (Bext Loud
 
 -- ---- the version after an edit
 
-no_version : (kind : Kind) (f : FieldMap) (e : List EditItem) → AreSound e → EffectsPass kind f e → change_in f e (Bext Version) ≡ None
-no_version kind f e sound pass = go (change_in f e (Bext Version)) refl
+no_version : (kind : Kind) (streams : ℕ) (f : FieldMap) (e : List EditItem) → AreSound e → EffectsPass kind streams f e → change_in f e (Bext Version) ≡ None
+no_version kind streams f e sound pass = go (change_in f e (Bext Version)) refl
   where
     go : (c : Option Change) → change_in f e (Bext Version) ≡ c → c ≡ None
     go None h = refl
-    go (Some change) h = let z = (change_sound kind f e (Bext Version) change sound pass h).passes.1.0 in absurd cc
+    go (Some change) h = let z = (change_sound kind streams f e (Bext Version) change sound pass h).passes.1.0 in absurd cc
 
-version_after : (kind : Kind) (f : FieldMap) (e : List EditItem) → AreSound e → EffectsPass kind f e → version_of (update f e) ≡ le (first_raw (ready f e Version))
-version_after kind f e sound pass =
-    ap (λ (vs : List Value). le (first_raw vs)) (bext_after f e Version sound ∙ ap (λ (c : Option Change). after (Bext Version) c (ready f e Version)) (no_version kind f e sound pass))
+version_after : (kind : Kind) (streams : ℕ) (f : FieldMap) (e : List EditItem) → AreSound e → EffectsPass kind streams f e → version_of (update f e) ≡ le (first_raw (ready f e Version))
+version_after kind streams f e sound pass =
+    ap (λ (vs : List Value). le (first_raw vs)) (bext_after f e Version sound ∙ ap (λ (c : Option Change). after (Bext Version) c (ready f e Version)) (no_version kind streams f e sound pass))
 
 small_version : (to : ℕ) → to ≤ 2 → le (le_bytes 2 to) ≡ to
 small_version to le = le-le_bytes 2 to (omega (arith, le))
@@ -223,10 +225,10 @@ raised_shows f to false lawful small h =
     go true e = blank_none (le (le_bytes 2 to))
     go false e = low_none (le (le_bytes 2 to)) (made f LoudnessRange) (let other = eqb-false to 2 e in omega (arith, small_version to small, small, other))
 
-still : (kind : Kind) (f : FieldMap) (e : List EditItem) → IsLawful f → AreSound e → EffectsPass kind f e → change_in f e (Bext LoudnessRange) ≡ None → shown_texts (update f e) (Bext LoudnessRange) ≡ shown_texts f (Bext LoudnessRange)
-still kind f e lawful sound pass none =
+still : (kind : Kind) (streams : ℕ) (f : FieldMap) (e : List EditItem) → IsLawful f → AreSound e → EffectsPass kind streams f e → change_in f e (Bext LoudnessRange) ≡ None → shown_texts (update f e) (Bext LoudnessRange) ≡ shown_texts f (Bext LoudnessRange)
+still kind streams f e lawful sound pass none =
     ap (texts_at (version_of (update f e))) (bext_after f e LoudnessRange sound ∙ ap (λ (c : Option Change). after (Bext LoudnessRange) c (ready f e LoudnessRange)) none)
-    ∙ ap (λ (version : ℕ). texts_at version (ready f e LoudnessRange)) (version_after kind f e sound pass)
+    ∙ ap (λ (version : ℕ). texts_at version (ready f e LoudnessRange)) (version_after kind streams f e sound pass)
     ∙ go (touches f e)
   where
     go : (t : Bool) → texts_at (le (first_raw (cond t (raised_to (nat_le (needed (raw_items f e)) (version_of f)) (needed (raw_items f e)) Version f) (f (Bext Version))))) (cond t (raised_to (nat_le (needed (raw_items f e)) (version_of f)) (needed (raw_items f e)) LoudnessRange f) (f (Bext LoudnessRange))) ≡ texts_at (version_of f) (f (Bext LoudnessRange))
@@ -277,16 +279,16 @@ writes text n h = go (is_negative text) refl h
         let high : hundredths_of text ≤ 32766 = leb-true (hundredths_of text) 32766 (and_parts (is_hundredths text) _ z.0).1 in
         (omega (arith, high, z.1), λ e. omega (arith, high, z.1, e), lt-leb 32768 n (omega (arith, high, z.1)) ∙ sym is)
 
-set_shows : (kind : Kind) (f : FieldMap) (e : List EditItem) (text : List ℕ) (n : ℕ) → IsLawful f → AreSound e → EffectsPass kind f e → change_in f e (Bext LoudnessRange) ≡ Some (Set text) → loudness_of text ≡ Some n
+set_shows : (kind : Kind) (streams : ℕ) (f : FieldMap) (e : List EditItem) (text : List ℕ) (n : ℕ) → IsLawful f → AreSound e → EffectsPass kind streams f e → change_in f e (Bext LoudnessRange) ≡ Some (Set text) → loudness_of text ≡ Some n
     → some_text is_negative (update f e) (Bext LoudnessRange) ≡ is_negative text
-set_shows kind f e text n lawful sound pass to is =
+set_shows kind streams f e text n lawful sound pass to is =
     let w = writes text n is in
     let raw : raw_of (Bext LoudnessRange) text ≡ Some (le_bytes 2 n) = ap (option_map (le_bytes 2)) is in
     let spelled : raw_change (Bext LoudnessRange) (Set text) ≡ Some (written (Bext LoudnessRange) (le_bytes 2 n)) = ap (option_map (written (Bext LoudnessRange))) raw in
     let two = needs_two f e (Set text) (written (Bext LoudnessRange) (le_bytes 2 n)) to spelled refl in
     let high = version_two f (needed (raw_items f e)) (nat_le (needed (raw_items f e)) (version_of f)) lawful two.1 (needed_small (raw_items f e)) refl in
     let version : 2 ≤ version_of (update f e) =
-    omega (arith, high, version_after kind f e sound pass, ap (λ (t : Bool). le (first_raw (cond t (raised_to (nat_le (needed (raw_items f e)) (version_of f)) (needed (raw_items f e)) Version f) (f (Bext Version))))) two.0)
+    omega (arith, high, version_after kind streams f e sound pass, ap (λ (t : Bool). le (first_raw (cond t (raised_to (nat_le (needed (raw_items f e)) (version_of f)) (needed (raw_items f e)) Version f) (f (Bext Version))))) two.0)
     in
     let number : le (le_bytes 2 n) ≡ n = le-le_bytes 2 n (omega (arith, w.0)) in
     ap (λ (vs : List Value). list_any is_negative (texts_at (version_of (update f e)) vs))
@@ -295,18 +297,18 @@ set_shows kind f e text n lawful sound pass to is =
     ∙ ap (λ (o : Option (List ℕ)). list_any is_negative (cons_option o [])) (high_shows (version_of (update f e)) n version w.1)
     ∙ or_false (is_negative (loudness_text n)) ∙ sign n ∙ w.2
 
-pub range_after : (kind : Kind) (f : FieldMap) (e : List EditItem) → IsLawful f → AreSound e → EffectsPass kind f e
+pub range_after : (kind : Kind) (streams : ℕ) (f : FieldMap) (e : List EditItem) → IsLawful f → AreSound e → EffectsPass kind streams f e
     → some_text is_negative (update f e) (Bext LoudnessRange) ≡ changed_fails row.Range f (Bext LoudnessRange) (change_in f e (Bext LoudnessRange))
-range_after kind f e lawful sound pass = go (change_in f e (Bext LoudnessRange)) refl
+range_after kind streams f e lawful sound pass = go (change_in f e (Bext LoudnessRange)) refl
   where
     number_of : (text : List ℕ) (o : Option ℕ) → loudness_of text ≡ o → is_none o ≡ false → (n : ℕ) × (loudness_of text ≡ Some n)
     number_of text None is some = absurd cc
     number_of text (Some n) is some = (n, is)
 
     go : (c : Option Change) → change_in f e (Bext LoudnessRange) ≡ c → some_text is_negative (update f e) (Bext LoudnessRange) ≡ changed_fails row.Range f (Bext LoudnessRange) c
-    go None h = ap (list_any is_negative) (still kind f e lawful sound pass h)
+    go None h = ap (list_any is_negative) (still kind streams f e lawful sound pass h)
     go (Some Remove) h = ap (list_any is_negative) (gone f e sound h)
     go (Some (Set text)) h =
-        let z = change_sound kind f e (Bext LoudnessRange) (Set text) sound pass h in
+        let z = change_sound kind streams f e (Bext LoudnessRange) (Set text) sound pass h in
         let n = number_of text (loudness_of text) refl z.passes.1.1.1.1.1.1.1.1.0 in
-        set_shows kind f e text n.0 lawful sound pass h n.1
+        set_shows kind streams f e text n.0 lawful sound pass h n.1

@@ -9,13 +9,13 @@ use Rattle.part_tree.specs.declared.field.Change.{Change}
 use Rattle.part_tree.specs.declared.field.Change.TheVariants.{Set, Remove}
 use Rattle.part_tree.specs.declared.field.EditItem.{EditItem}
 use Rattle.part_tree.specs.declared.field.FieldName.{FieldName}
-use Rattle.part_tree.specs.declared.field.FieldName.TheVariants.{Bext, Info, Whole, User}
+use Rattle.part_tree.specs.declared.field.FieldName.TheVariants.{Bext, Info, Whole, User, Key, Stream}
 use Rattle.part_tree.specs.declared.field.Form.{Form}
 use Rattle.part_tree.specs.declared.field.Form.TheVariants.{Text}
 use Rattle.part_tree.specs.declared.field.Value.{Value}
 use Rattle.part_tree.specs.declared.names.FourCc.{FourCc}
 use Rattle.part_tree.specs.declared.names.Kind.{Kind}
-use Rattle.part_tree.specs.declared.names.Kind.TheVariants.{Wave, Rf64, Avi, Mov}
+use Rattle.part_tree.specs.declared.names.Kind.TheVariants.{Wave, Rf64, Bw64, Avi, Mov}
 use Rattle.part_tree.specs.Letters.{four}
 use Rattle.part_tree.specs.Names.{same_name, info_ids}
 use Rattle.part_tree.proofs.Places.{same_is_equal}
@@ -27,7 +27,7 @@ use Rattle.field_model.specs.Fields.{FieldMap}
 use Rattle.field_model.specs.History.{is_history}
 use Rattle.field_model.specs.Lawful.{IsLawful}
 use Rattle.field_model.specs.Raw.{raw_of, raw_form, fits_width, padded}
-use Rattle.field_model.specs.Rules.{form_number, is_info, is_user, is_printable}
+use Rattle.field_model.specs.Rules.{form_number, is_info, is_short, is_printable}
 use Rattle.field_model.specs.Shown.{unless_empty, shown_texts}
 use Rattle.field_model.specs.Update.{update}
 use Rattle.fadgi_rules.specs.declared.row.FieldRule.{FieldRule}
@@ -46,57 +46,57 @@ use Rattle.fadgi_rules.proofs.Views.{Sound, change_sound, Texted, shows_still, s
 abbrev Plain : FieldName → Type 0
 Plain (Bext field) = form_of field ≡ Text
 Plain (Info id) = Unit {0}
-Plain (Whole id) = ⊥
 Plain (User id) = Unit {0}
+Plain name = ⊥
 
 plain_texted : (name : FieldName) → Plain name → Texted name
 plain_texted (Bext field) h = let P : Form → Type 0 = λ form. Rattle.fadgi_rules.proofs.Views.TextForm form in subst P (sym h) tt
 plain_texted (Info id) h = tt
-plain_texted (Whole id) h = absurd h
 plain_texted (User id) h = tt
+plain_texted name h = absurd h
 
 opposite : (t : Bool) → not t ≡ false → t ≡ true
 opposite true h = refl
 opposite false h = absurd cc
 
 -- the raw bytes of a text of bext that breaks no rule, and what they show
-text_raw : (kind : Kind) (field : BextField) (text : List ℕ) → form_of field ≡ Text → Sound kind (Bext field) (Set text) → raw_of (Bext field) text ≡ Some (padded field text)
-text_raw kind field text is sound =
+text_raw : (kind : Kind) (streams : ℕ) (field : BextField) (text : List ℕ) → form_of field ≡ Text → Sound kind streams (Bext field) (Set text) → raw_of (Bext field) text ≡ Some (padded field text)
+text_raw kind streams field text is sound =
     let wide : not (fits_width field text) ≡ false = sym (ap (λ (form : Form). (form_number form == form_number Text) && not (fits_width field text)) is) ∙ sound.passes.1.1.1.1.0 in
     ap (λ (form : Form). raw_form form field text) is ∙ cond-true (fits_width field text) (Some (padded field text)) None (opposite (fits_width field text) wide)
 
-no_zero : (kind : Kind) (field : BextField) (text : List ℕ) → form_of field ≡ Text → Sound kind (Bext field) (Set text) → HasNoZero text
-no_zero kind field text is sound =
-    sym (ap (λ (form : Form). ((form_number form == form_number Text) || is_info (Bext field) || is_user (Bext field)) && list_any (λ x. x == 0) text) is) ∙ sound.passes.1.1.0
+no_zero : (kind : Kind) (streams : ℕ) (field : BextField) (text : List ℕ) → form_of field ≡ Text → Sound kind streams (Bext field) (Set text) → HasNoZero text
+no_zero kind streams field text is sound =
+    sym (ap (λ (form : Form). ((form_number form == form_number Text) || is_info (Bext field) || is_short (Bext field)) && list_any (λ x. x == 0) text) is) ∙ sound.passes.1.1.0
 
-plain_set : (kind : Kind) (f : FieldMap) (e : List EditItem) (name : FieldName) (text : List ℕ) → AreSound e → EffectsPass kind f e → Plain name → change_in f e name ≡ Some (Set text)
+plain_set : (kind : Kind) (streams : ℕ) (f : FieldMap) (e : List EditItem) (name : FieldName) (text : List ℕ) → AreSound e → EffectsPass kind streams f e → Plain name → change_in f e name ≡ Some (Set text)
     → shown_texts (update f e) name ≡ text ∷ []
-plain_set kind f e (Bext field) text sound pass h to =
-    let z = change_sound kind f e (Bext field) (Set text) sound pass to in
-    let none : HasNoZero text = no_zero kind field text h z in
-    set_value f e (Bext field) text (padded field text) sound (plain_texted (Bext field) h) to (text_raw kind field text h z)
+plain_set kind streams f e (Bext field) text sound pass h to =
+    let z = change_sound kind streams f e (Bext field) (Set text) sound pass to in
+    let none : HasNoZero text = no_zero kind streams field text h z in
+    set_value f e (Bext field) text (padded field text) sound (plain_texted (Bext field) h) to (text_raw kind streams field text h z)
     ∙ ap (λ (raw : List ℕ). cons_option (unless_empty raw) []) (text_before text (width field - length text) none)
     ∙ ap (λ (o : Option (List ℕ)). cons_option o []) (cond-false (length text == 0) None (Some text) z.some)
-plain_set kind f e (Info id) text sound pass h to =
-    let z = change_sound kind f e (Info id) (Set text) sound pass to in
+plain_set kind streams f e (Info id) text sound pass h to =
+    let z = change_sound kind streams f e (Info id) (Set text) sound pass to in
     set_value f e (Info id) text (text ++ 0 ∷ []) sound tt to refl ∙ ap (λ (raw : List ℕ). raw ∷ []) (text_alone text z.passes.1.1.0)
-plain_set kind f e (Whole id) text sound pass h to = absurd h
-plain_set kind f e (User id) text sound pass h to = set_value f e (User id) text text sound tt to refl
+plain_set kind streams f e (User id) text sound pass h to = set_value f e (User id) text text sound tt to refl
+plain_set kind streams f e name text sound pass h to = absurd h
 
 -- ---- dates and times
 
-date_set : (kind : Kind) (f : FieldMap) (e : List EditItem) (text : List ℕ) → AreSound e → EffectsPass kind f e → change_in f e (Bext OriginationDate) ≡ Some (Set text)
+date_set : (kind : Kind) (streams : ℕ) (f : FieldMap) (e : List EditItem) (text : List ℕ) → AreSound e → EffectsPass kind streams f e → change_in f e (Bext OriginationDate) ≡ Some (Set text)
     → (shown_texts (update f e) (Bext OriginationDate) ≡ spelled_date text ∷ []) × (is_date text ≡ true) × Spells is_date (spelled_date text)
-date_set kind f e text sound pass to =
-    let z = change_sound kind f e (Bext OriginationDate) (Set text) sound pass to in
+date_set kind streams f e text sound pass to =
+    let z = change_sound kind streams f e (Bext OriginationDate) (Set text) sound pass to in
     let is : is_date text ≡ true = opposite (is_date text) z.passes.1.1.1.1.1.0 in
     let s = date_spelled text is in
     (set_value f e (Bext OriginationDate) text (spelled_date text) sound tt to (cond-true (is_date text) (Some (spelled_date text)) None is) ∙ ap (λ (o : Option (List ℕ)). cons_option o []) s.shows, is, s)
 
-time_set : (kind : Kind) (f : FieldMap) (e : List EditItem) (text : List ℕ) → AreSound e → EffectsPass kind f e → change_in f e (Bext OriginationTime) ≡ Some (Set text)
+time_set : (kind : Kind) (streams : ℕ) (f : FieldMap) (e : List EditItem) (text : List ℕ) → AreSound e → EffectsPass kind streams f e → change_in f e (Bext OriginationTime) ≡ Some (Set text)
     → (shown_texts (update f e) (Bext OriginationTime) ≡ spelled_time text ∷ []) × (is_time text ≡ true) × Spells is_time (spelled_time text)
-time_set kind f e text sound pass to =
-    let z = change_sound kind f e (Bext OriginationTime) (Set text) sound pass to in
+time_set kind streams f e text sound pass to =
+    let z = change_sound kind streams f e (Bext OriginationTime) (Set text) sound pass to in
     let is : is_time text ≡ true = opposite (is_time text) z.passes.1.1.1.1.1.1.0 in
     let s = time_spelled text is in
     (set_value f e (Bext OriginationTime) text (spelled_time text) sound tt to (cond-true (is_time text) (Some (spelled_time text)) None is) ∙ ap (λ (o : Option (List ℕ)). cons_option o []) s.shows, is, s)
@@ -166,7 +166,7 @@ by_cases a b none gone to None = none
 by_cases a b none gone to (Some Remove) = gone
 by_cases a b none gone to (Some (Set text)) = to text
 
-module _ (kind : Kind) (f : FieldMap) (e : List EditItem) (lawful : IsLawful f) (sound : AreSound e) (pass : EffectsPass kind f e) where
+module _ (kind : Kind) (streams : ℕ) (f : FieldMap) (e : List EditItem) (lawful : IsLawful f) (sound : AreSound e) (pass : EffectsPass kind streams f e) where
   abbrev Holds : FieldRule → FieldName → Type 0
   Holds r name = fails r (update f e) name ≡ changed_fails r f name (change_in f e name)
 
@@ -179,7 +179,7 @@ module _ (kind : Kind) (f : FieldMap) (e : List EditItem) (lawful : IsLawful f) 
 
   by_plain : (r : FieldRule) (test : List ℕ → Bool) (name : FieldName) → Plain name → fails r ≡ some_text test → needs_text r ≡ false → ((text : List ℕ) → text_fails r text ≡ test text) → Holds r name
   by_plain r test name is same none each =
-      by_texts r test name (plain_texted name is) same none each (λ text to. (text, plain_set kind f e name text sound pass is to, refl))
+      by_texts r test name (plain_texted name is) same none each (λ text to. (text, plain_set kind streams f e name text sound pass is to, refl))
 
   -- a rule that wants a text
   by_lack : (r : FieldRule) (name : FieldName) → Texted name → fails r ≡ shows_too_little → needs_text r ≡ true → ((text : List ℕ) → text_fails r text ≡ is_empty text)
@@ -190,22 +190,22 @@ module _ (kind : Kind) (f : FieldMap) (e : List EditItem) (lawful : IsLawful f) 
 
   plain_lack : (r : FieldRule) (name : FieldName) → Plain name → fails r ≡ shows_too_little → needs_text r ≡ true → ((text : List ℕ) → text_fails r text ≡ is_empty text) → Holds r name
   plain_lack r name is same needs each =
-      by_lack r name (plain_texted name is) same needs each (λ text to. (text, plain_set kind f e name text sound pass is to, refl))
+      by_lack r name (plain_texted name is) same needs each (λ text to. (text, plain_set kind streams f e name text sound pass is to, refl))
 
   date_holds : Holds row.Date (Bext OriginationDate)
   date_holds =
       by_texts row.Date (λ text. not (is_date text)) (Bext OriginationDate) tt refl refl (λ text. refl)
-      (λ text to. let z = date_set kind f e text sound pass to in (spelled_date text, z.0, ap not (z.2.passes ∙ sym z.1)))
+      (λ text to. let z = date_set kind streams f e text sound pass to in (spelled_date text, z.0, ap not (z.2.passes ∙ sym z.1)))
 
   time_holds : Holds row.Time (Bext OriginationTime)
   time_holds =
       by_texts row.Time (λ text. not (is_time text)) (Bext OriginationTime) tt refl refl (λ text. refl)
-      (λ text to. let z = time_set kind f e text sound pass to in (spelled_time text, z.0, ap not (z.2.passes ∙ sym z.1)))
+      (λ text to. let z = time_set kind streams f e text sound pass to in (spelled_time text, z.0, ap not (z.2.passes ∙ sym z.1)))
 
   date_lack : Holds row.HasDate (Bext OriginationDate)
   date_lack =
       by_lack row.HasDate (Bext OriginationDate) tt refl refl (λ text. refl)
-      (λ text to. (spelled_date text, (date_set kind f e text sound pass to).0, (date_set kind f e text sound pass to).2.some ∙ sym (change_sound kind f e (Bext OriginationDate) (Set text) sound pass to).some))
+      (λ text to. (spelled_date text, (date_set kind streams f e text sound pass to).0, (date_set kind streams f e text sound pass to).2.some ∙ sym (change_sound kind streams f e (Bext OriginationDate) (Set text) sound pass to).some))
 
   letters_hold : (field : BextField) → form_of field ≡ Text → Holds row.Letters (Bext field)
   letters_hold field is = by_plain row.Letters (λ text. not (list_all is_printable text)) (Bext field) is refl refl (λ text. refl)
@@ -244,18 +244,21 @@ module _ (kind : Kind) (f : FieldMap) (e : List EditItem) (lawful : IsLawful f) 
   description : (name : FieldName) (k : Kind) → list_any (same_name name) (fields_of row.HasDescription k) ≡ true → Holds row.HasDescription name
   description name Wave h = on row.HasDescription (Bext Description) name (one name (Bext Description) h) (plain_lack row.HasDescription (Bext Description) refl refl refl (λ text. refl))
   description name Rf64 h = on row.HasDescription (Bext Description) name (one name (Bext Description) h) (plain_lack row.HasDescription (Bext Description) refl refl refl (λ text. refl))
+  description name Bw64 h = on row.HasDescription (Bext Description) name (one name (Bext Description) h) (plain_lack row.HasDescription (Bext Description) refl refl refl (λ text. refl))
   description name Avi h = on row.HasDescription (Info (four (codes "INAM"))) name (one name (Info (four (codes "INAM"))) h) (plain_lack row.HasDescription (Info (four (codes "INAM"))) tt refl refl (λ text. refl))
   description name Mov h = on row.HasDescription (User (four (169 ∷ codes "nam"))) name (one name (User (four (169 ∷ codes "nam"))) h) (plain_lack row.HasDescription (User (four (169 ∷ codes "nam"))) tt refl refl (λ text. refl))
 
   originator : (name : FieldName) (k : Kind) → list_any (same_name name) (fields_of row.HasOriginator k) ≡ true → Holds row.HasOriginator name
   originator name Wave h = on row.HasOriginator (Bext Originator) name (one name (Bext Originator) h) (plain_lack row.HasOriginator (Bext Originator) refl refl refl (λ text. refl))
   originator name Rf64 h = on row.HasOriginator (Bext Originator) name (one name (Bext Originator) h) (plain_lack row.HasOriginator (Bext Originator) refl refl refl (λ text. refl))
+  originator name Bw64 h = on row.HasOriginator (Bext Originator) name (one name (Bext Originator) h) (plain_lack row.HasOriginator (Bext Originator) refl refl refl (λ text. refl))
   originator name Avi h = on row.HasOriginator (Info (four (codes "IARL"))) name (one name (Info (four (codes "IARL"))) h) (plain_lack row.HasOriginator (Info (four (codes "IARL"))) tt refl refl (λ text. refl))
   originator name Mov h = absurd cc
 
   origination : (name : FieldName) (k : Kind) → list_any (same_name name) (fields_of row.HasDate k) ≡ true → Holds row.HasDate name
   origination name Wave h = on row.HasDate (Bext OriginationDate) name (one name (Bext OriginationDate) h) date_lack
   origination name Rf64 h = on row.HasDate (Bext OriginationDate) name (one name (Bext OriginationDate) h) date_lack
+  origination name Bw64 h = on row.HasDate (Bext OriginationDate) name (one name (Bext OriginationDate) h) date_lack
   origination name Avi h = on row.HasDate (Info (four (codes "ICRD"))) name (one name (Info (four (codes "ICRD"))) h) (plain_lack row.HasDate (Info (four (codes "ICRD"))) tt refl refl (λ text. refl))
   origination name Mov h = on row.HasDate (User (four (169 ∷ codes "day"))) name (one name (User (four (169 ∷ codes "day"))) h) (plain_lack row.HasDate (User (four (169 ∷ codes "day"))) tt refl refl (λ text. refl))
 
@@ -264,7 +267,7 @@ module _ (kind : Kind) (f : FieldMap) (e : List EditItem) (lawful : IsLawful f) 
   rule_holds row.History name looks = on row.History (Bext CodingHistory) name (one name (Bext CodingHistory) looks.1) (by_plain row.History (λ text. not (is_history text)) (Bext CodingHistory) refl refl refl (λ text. refl))
   rule_holds row.Date name looks = on row.Date (Bext OriginationDate) name (one name (Bext OriginationDate) looks.1) date_holds
   rule_holds row.Time name looks = on row.Time (Bext OriginationTime) name (one name (Bext OriginationTime) looks.1) time_holds
-  rule_holds row.Range name looks = on row.Range (Bext LoudnessRange) name (one name (Bext LoudnessRange) looks.1) (range_after kind f e lawful sound pass)
+  rule_holds row.Range name looks = on row.Range (Bext LoudnessRange) name (one name (Bext LoudnessRange) looks.1) (range_after kind streams f e lawful sound pass)
   rule_holds row.Letters name looks = letters name looks.1
   rule_holds row.Once name looks = on_info row.Once name (info_one name info_ids looks.1) once_holds
   rule_holds row.End name looks = on_info row.End name (info_one name info_ids looks.1) end_holds

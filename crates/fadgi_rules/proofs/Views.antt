@@ -9,7 +9,7 @@ use Rattle.part_tree.specs.declared.field.Change.{Change}
 use Rattle.part_tree.specs.declared.field.Change.TheVariants.{Set, Remove}
 use Rattle.part_tree.specs.declared.field.EditItem.{EditItem}
 use Rattle.part_tree.specs.declared.field.FieldName.{FieldName}
-use Rattle.part_tree.specs.declared.field.FieldName.TheVariants.{Bext, Info, Whole, User}
+use Rattle.part_tree.specs.declared.field.FieldName.TheVariants.{Bext, Info, Whole, User, Key, Stream}
 use Rattle.part_tree.specs.declared.field.Form.{Form}
 use Rattle.part_tree.specs.declared.field.Form.TheVariants.{Text, Date, Time, Count, Umid, Loudness, Reserved}
 use Rattle.part_tree.specs.declared.field.Form.TheVariants as form
@@ -38,21 +38,21 @@ some_is : (a b : Change) → Some a ≡ Some b → a ≡ b
 some_is a b h = ap (λ (o : Option Change). unwrap_or o Remove) h
 
 -- it breaks no rule and sets no empty text
-pub record Sound (kind : Kind) (name : FieldName) (change : Change) : Type 0 where
-  pub passes : Passes (item_tests kind) (item name change)
+pub record Sound (kind : Kind) (streams : ℕ) (name : FieldName) (change : Change) : Type 0 where
+  pub passes : Passes (item_tests kind streams) (item name change)
   pub some : is_empty_set change ≡ false
 
-pub change_sound : (kind : Kind) (f : FieldMap) (e : List EditItem) (name : FieldName) (change : Change) → AreSound e → EffectsPass kind f e → change_in f e name ≡ Some change → Sound kind name change
-change_sound kind f [] name change sound pass h = absurd cc
-change_sound kind f (i ∷ e) name change sound pass h = go (same_name i.name name) (has_effect f i) refl refl h (change_sound kind f e name change sound.3 pass.1)
+pub change_sound : (kind : Kind) (streams : ℕ) (f : FieldMap) (e : List EditItem) (name : FieldName) (change : Change) → AreSound e → EffectsPass kind streams f e → change_in f e name ≡ Some change → Sound kind streams name change
+change_sound kind streams f [] name change sound pass h = absurd cc
+change_sound kind streams f (i ∷ e) name change sound pass h = go (same_name i.name name) (has_effect f i) refl refl h (change_sound kind streams f e name change sound.3 pass.1)
   where
     go : (s b : Bool) → same_name i.name name ≡ s → has_effect f i ≡ b → cond (s && b) (Some i.change) (change_in f e name) ≡ Some change
-        → (change_in f e name ≡ Some change → Sound kind name change) → Sound kind name change
+        → (change_in f e name ≡ Some change → Sound kind streams name change) → Sound kind streams name change
     go true true same acts h rest =
         let is : i.name ≡ name = same_is_equal i.name name same in
         let to : i.change ≡ change = some_is i.change change h in
-        let P : FieldName → Type 0 = λ n. Passes (item_tests kind) (item n i.change) in
-        let Q : Change → Type 0 = λ c. Passes (item_tests kind) (item name c) in
+        let P : FieldName → Type 0 = λ n. Passes (item_tests kind streams) (item n i.change) in
+        let Q : Change → Type 0 = λ c. Passes (item_tests kind streams) (item name c) in
         record { passes = subst Q to (subst P is (pass.0 acts)); some = ap is_empty_set (sym to) ∙ sound.1 }
     go false true same acts h rest = rest h
     go true false same acts h rest = rest h
@@ -67,9 +67,7 @@ untouched (i ∷ e) field vs h = go (is_bext i.name) refl h (untouched e field v
   where
     other : (name : FieldName) → is_bext name ≡ false → same_name name (Bext field) ≡ false
     other (Bext a) h = absurd cc
-    other (Info a) h = refl
-    other (Whole a) h = refl
-    other (User a) h = refl
+    other name h = refl
 
     go : (t : Bool) → is_bext i.name ≡ t → (t || list_any (λ j. is_bext j.name) e) ≡ false → (list_any (λ j. is_bext j.name) e ≡ false → updated_values e (Bext field) vs ≡ vs)
         → updated_values e (Bext field) (cond (same_name i.name (Bext field)) (listed i.value) vs) ≡ vs
@@ -109,8 +107,8 @@ TextForm Reserved = ⊥
 abbrev pub Texted : FieldName → Type 0
 Texted (Bext field) = TextForm (form_of field)
 Texted (Info id) = Unit {0}
-Texted (Whole id) = ⊥
 Texted (User id) = Unit {0}
+Texted name = ⊥
 
 form_shows : (form : Form) (version : ℕ) (raw : List ℕ) → TextForm form → shown_form form version raw ≡ unless_empty (before_zero raw)
 form_shows Text version raw h = refl
@@ -125,8 +123,8 @@ form_shows Reserved version raw h = absurd h
 pub shows_plain : (f : FieldMap) (name : FieldName) (v : Value) → Texted name → shown f name v ≡ plain_text name v.raw
 shows_plain f (Bext field) v h = form_shows (form_of field) (version_of f) v.raw h
 shows_plain f (Info id) v h = refl
-shows_plain f (Whole id) v h = absurd h
 shows_plain f (User id) v h = refl
+shows_plain f name v h = absurd h
 
 -- the texts of some values
 abbrev pub texts : FieldName → List Value → List (List ℕ)
@@ -191,9 +189,9 @@ shows_still f e (Bext field) lawful sound h none =
     ∙ ready_shows f e field lawful h ∙ sym (shown_plain f (Bext field) h)
 shows_still f e (Info id) lawful sound h none =
     ap (texts (Info id)) (values_after f e (Info id) (f (Info id)) sound ∙ ap (λ (c : Option Change). after (Info id) c (f (Info id))) none)
-shows_still f e (Whole id) lawful sound h none = absurd h
 shows_still f e (User id) lawful sound h none =
     ap (texts (User id)) (values_after f e (User id) (f (User id)) sound ∙ ap (λ (c : Option Change). after (User id) c (f (User id))) none)
+shows_still f e name lawful sound h none = absurd h
 
 -- a name that is removed
 blank_shows : (form : Form) (n : ℕ) → TextForm form → unless_empty (before_zero (blank_form form n)) ≡ None
@@ -213,9 +211,9 @@ shows_none f e (Bext field) sound h gone =
     ∙ ap (λ (o : Option (List ℕ)). cons_option o []) (blank_shows (form_of field) (width field) h)
 shows_none f e (Info id) sound h gone =
     ap (texts (Info id)) (values_after f e (Info id) (f (Info id)) sound ∙ ap (λ (c : Option Change). after (Info id) c (f (Info id))) gone)
-shows_none f e (Whole id) sound h gone = absurd h
 shows_none f e (User id) sound h gone =
     ap (texts (User id)) (values_after f e (User id) (f (User id)) sound ∙ ap (λ (c : Option Change). after (User id) c (f (User id))) gone)
+shows_none f e name sound h gone = absurd h
 
 -- the values of a name that is set to a text which is laid as some bytes
 pub set_value : (f : FieldMap) (e : List EditItem) (name : FieldName) (text raw : List ℕ) → AreSound e → Texted name → change_in f e name ≡ Some (Set text) → raw_of name text ≡ Some raw
@@ -225,6 +223,6 @@ set_value f e (Bext field) text raw sound h to spelled =
     ∙ ap (texts (Bext field)) (bext_after f e field sound ∙ ap (λ (c : Option Change). after (Bext field) c (ready f e field)) to ∙ ap (λ (o : Option (List ℕ)). laid (option_map (written (Bext field)) o) (ready f e field)) spelled)
 set_value f e (Info id) text raw sound h to spelled =
     ap (texts (Info id)) (values_after f e (Info id) (f (Info id)) sound ∙ ap (λ (c : Option Change). after (Info id) c (f (Info id))) to ∙ ap (λ (o : Option (List ℕ)). laid (option_map (written (Info id)) o) (f (Info id))) spelled)
-set_value f e (Whole id) text raw sound h to spelled = absurd h
 set_value f e (User id) text raw sound h to spelled =
     ap (texts (User id)) (values_after f e (User id) (f (User id)) sound ∙ ap (λ (c : Option Change). after (User id) c (f (User id))) to ∙ ap (λ (o : Option (List ℕ)). laid (option_map (written (User id)) o) (f (User id))) spelled)
+set_value f e name text raw sound h to spelled = absurd h

@@ -1,5 +1,5 @@
 -- What an edit does to a name: the change of the item that names it and has an effect.
-use Rattle.std.specs.Prelude.{◌≡◌, List, [], ◌∷◌, ◌&&◌, if◌then◌else◌, Option, Some, None}
+use Rattle.std.specs.Prelude.{◌≡◌, ℕ, List, [], ◌∷◌, ◌&&◌, if◌then◌else◌, Option, Some, None}
 use Rattle.part_tree.specs.declared.field.Change.{Change}
 use Rattle.part_tree.specs.declared.field.EditItem.{EditItem}
 use Rattle.part_tree.specs.declared.field.FieldName.{FieldName}
@@ -17,4 +17,4 @@ change_in f (item ∷ e) name = if same_name item.name name && has_effect f item
 
 -- no item with an effect breaks one of the rules 1 to 13
 abbrev pub IsFine : FieldMap → List EditItem → Type 0
-IsFine f e = (kind : Kind) × (broken kind f e Base ≡ None)
+IsFine f e = (kind : Kind) × (streams : ℕ) × (broken kind streams f e Base ≡ None)

@@ -5,7 +5,8 @@ use Rattle.part_tree.specs.declared.field.EditItem.{EditItem}
 use Rattle.part_tree.specs.declared.field.FieldName.{FieldName}
 use Rattle.part_tree.specs.declared.names.Kind.{Kind}
 use Rattle.part_tree.specs.Names.{field_place}
-use Rattle.field_model.specs.Broken.{has_field, set_fails}
+use Rattle.field_model.specs.Broken.{set_fails}
+use Rattle.field_model.specs.KindFacts.{has_field}
 use Rattle.field_model.specs.Fields.{FieldMap}
 use Rattle.field_model.specs.Rules.{TextRule, sets_version, has_nul, has_other_letter, too_wide, no_date, no_time, no_count, no_loudness_text, no_umid, no_checksum, no_utf8, too_long}
 use Rattle.field_model.specs.Update.{has_effect}
@@ -18,10 +19,10 @@ ItemTest = EditItem → Bool
 abbrev pub text_test : TextRule → ItemTest
 text_test rule item = set_fails rule item.name item.change
 
--- the rules 1 to 13, in a file of a kind
-abbrev pub item_tests : Kind → List ItemTest
-item_tests kind =
-    (λ item. not (has_field kind item.name))
+-- the rules 1 to 13, in a file of a kind with so many streams
+abbrev pub item_tests : Kind → ℕ → List ItemTest
+item_tests kind streams =
+    (λ item. not (has_field kind streams item.name))
     ∷ (λ item. sets_version item.name [])
     ∷ text_test has_nul
     ∷ text_test has_other_letter
@@ -42,16 +43,16 @@ least_from n [] item = None
 least_from n (fails ∷ tests) item = if fails item then Some n else least_from (suc n) tests item
 
 -- the least rule that an item breaks
-abbrev pub item_rule : Kind → EditItem → Option ℕ
-item_rule kind item = least_from 1 (item_tests kind) item
+abbrev pub item_rule : Kind → ℕ → EditItem → Option ℕ
+item_rule kind streams item = least_from 1 (item_tests kind streams) item
 
 -- a broken rule, and the field that breaks it
 abbrev pub found : ℕ → FieldName → Broken
 found n name = record { rule = n; field = name }
 
 -- the least rule that an item breaks, with its field, where the item has an effect
-abbrev pub item_broken : Kind → FieldMap → EditItem → Option Broken
-item_broken kind f item = if has_effect f item then option_map (λ n. found n item.name) (item_rule kind item) else None
+abbrev pub item_broken : Kind → ℕ → FieldMap → EditItem → Option Broken
+item_broken kind streams f item = if has_effect f item then option_map (λ n. found n item.name) (item_rule kind streams item) else None
 
 -- a lower rule comes first, and of one rule the field that comes first
 abbrev pub comes_first : Broken → Broken → Bool
@@ -64,6 +65,6 @@ first_of_two (Some a) None = Some a
 first_of_two (Some a) (Some b) = if comes_first a b then Some a else Some b
 
 -- the first rule that some item breaks
-abbrev pub items_broken : Kind → FieldMap → List EditItem → Option Broken
-items_broken kind f [] = None
-items_broken kind f (item ∷ e) = first_of_two (item_broken kind f item) (items_broken kind f e)
+abbrev pub items_broken : Kind → ℕ → FieldMap → List EditItem → Option Broken
+items_broken kind streams f [] = None
+items_broken kind streams f (item ∷ e) = first_of_two (item_broken kind streams f item) (items_broken kind streams f e)

@@ -4,10 +4,10 @@ use Rattle.me_bytes.specs.Bytes.{le}
 use Rattle.part_tree.specs.declared.field.BextField.{BextField}
 use Rattle.part_tree.specs.declared.field.BextField.TheVariants.{LoudnessRange, Version}
 use Rattle.part_tree.specs.declared.field.FieldName.{FieldName}
-use Rattle.part_tree.specs.declared.field.FieldName.TheVariants.{Bext, Info, Whole, User}
+use Rattle.part_tree.specs.declared.field.FieldName.TheVariants.{Bext, Info, Whole, User, Key, Stream}
 use Rattle.part_tree.specs.declared.field.Value.{Value}
 use Rattle.field_model.specs.Fields.{FieldMap, first_raw}
-use Rattle.field_model.specs.Shown.{before_zero, unless_empty}
+use Rattle.field_model.specs.Shown.{before_zero, shown_key, unless_empty}
 use Rattle.fadgi_rules.specs.declared.row.FieldRule.{FieldRule}
 use Rattle.fadgi_rules.specs.Rows.{text_fails}
 
@@ -17,6 +17,8 @@ plain_text (Bext field) raw = unless_empty (before_zero raw)
 plain_text (Info id) raw = Some (before_zero raw)
 plain_text (Whole id) raw = Some raw
 plain_text (User id) raw = Some raw
+plain_text (Key name) raw = shown_key raw
+plain_text (Stream n) raw = Some (before_zero raw)
 
 -- whether there is a text for which a rule fails
 abbrev pub option_fails : FieldRule → Option (List ℕ) → Bool

@@ -11,10 +11,11 @@ use Rattle.part_tree.specs.declared.field.RuleSet.TheVariants as set
 use Rattle.part_tree.specs.declared.names.Kind.{Kind}
 use Rattle.part_tree.specs.Letters.{four}
 use Rattle.part_tree.specs.Names.{same_name}
-use Rattle.field_model.specs.Broken.{Rule, on_fields, always, some_text, shows_too_little, ends_with_zero, info_names, description_fields, originator_fields, date_fields}
+use Rattle.field_model.specs.Broken.{Rule, on_fields, always, some_text, shows_too_little, ends_with_zero, info_names}
 use Rattle.field_model.specs.Dates.{is_date, is_time, is_info_date}
 use Rattle.field_model.specs.Fields.{FieldMap}
 use Rattle.field_model.specs.History.{is_history}
+use Rattle.field_model.specs.KindFacts.{facts}
 use Rattle.field_model.specs.Numbers.{is_negative}
 use Rattle.field_model.specs.Rules.{is_printable}
 use Rattle.fadgi_rules.specs.declared.row.FieldRule.{FieldRule}
@@ -58,9 +59,9 @@ fields_of row.Letters = always (name.Bext Description ∷ name.Bext Originator �
 fields_of row.Once = always info_names
 fields_of row.End = always info_names
 fields_of row.Created = always (name.Info (four (codes "ICRD")) ∷ [])
-fields_of row.HasDescription = description_fields
-fields_of row.HasOriginator = originator_fields
-fields_of row.HasDate = date_fields
+fields_of row.HasDescription = λ kind. (facts kind).description
+fields_of row.HasOriginator = λ kind. (facts kind).originator
+fields_of row.HasDate = λ kind. (facts kind).date
 
 -- whether it fails for one of them
 abbrev pub fails : FieldRule → FieldMap → FieldName → Bool

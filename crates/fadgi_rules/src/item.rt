@@ -2,6 +2,7 @@
 ghost use Rattle.std.specs.Prelude.{◌≡◌, []};
 ghost use Rattle.part_tree.specs.Fields.{values};
 ghost use Rattle.field_model.specs.Broken as spec;
+ghost use Rattle.field_model.specs.KindFacts as facts;
 ghost use Rattle.field_model.specs.Lawful.{IsLawful};
 ghost use Rattle.part_tree.specs.declared.field.RuleSet.TheVariants.{Base};
 ghost use Rattle.field_model.specs.Rules.{sets_version};
@@ -11,13 +12,18 @@ use core_edit::{has_effect, text_rule};
 use part_tree::{BextField, Broken, Change, EditItem, FieldName, Fields, Kind};
 
 /// The first of the rules 1 to 13 that some item breaks, with the first field in field order that breaks it.
-pub fn first_by_items(kind: Kind, fields: &Fields, items: &[EditItem]) -> Option<Broken>
+pub fn first_by_items(
+    kind: Kind,
+    streams: u32,
+    fields: &Fields,
+    items: &[EditItem],
+) -> Option<Broken>
     requires { IsLawful (values fields.now) }
-    ensures { result ≡ spec.broken kind (values fields.now) items.now Base }
+    ensures { result ≡ spec.broken kind streams (values fields.now) items.now Base }
 {
     let mut first = None;
     for i in (0..items.len()).rev() {
-        first = first_of_two(item_broken(kind, fields, &items[i]), first);
+        first = first_of_two(item_broken(kind, streams, fields, &items[i]), first);
     }
     first
 }
@@ -42,18 +48,18 @@ fn first_of_two(a: Option<Broken>, b: Option<Broken>) -> Option<Broken>
 fn comes_first(a: &Broken, b: &Broken) -> bool
     ensures { result ≡ model.comes_first a.now b.now }
 {
-    a.rule < b.rule || (a.rule == b.rule && a.field.place() <= b.field.place())
+    a.rule < b.rule || (a.rule == b.rule && !b.field.is_before(&a.field))
 }
 
 // The least of the rules that an item with an effect breaks.
-fn item_broken(kind: Kind, fields: &Fields, item: &EditItem) -> Option<Broken>
+fn item_broken(kind: Kind, streams: u32, fields: &Fields, item: &EditItem) -> Option<Broken>
     requires { IsLawful (values fields.now) }
-    ensures { result ≡ model.item_broken kind (values fields.now) item.now }
+    ensures { result ≡ model.item_broken kind streams (values fields.now) item.now }
 {
     if !has_effect(fields, item) {
         return None;
     }
-    match item_rule(kind, item) {
+    match item_rule(kind, streams, item) {
         Some(rule) => Some(Broken {
             rule,
             field: item.name,
@@ -63,10 +69,10 @@ fn item_broken(kind: Kind, fields: &Fields, item: &EditItem) -> Option<Broken>
 }
 
 // The least of the rules that an item breaks.
-fn item_rule(kind: Kind, item: &EditItem) -> Option<u8>
-    ensures { result ≡ model.item_rule kind item.now }
+fn item_rule(kind: Kind, streams: u32, item: &EditItem) -> Option<u8>
+    ensures { result ≡ model.item_rule kind streams item.now }
 {
-    if !has_field(kind, &item.name) {
+    if !has_field(kind, streams, &item.name) {
         return Some(1);
     }
     match &item.change {
@@ -81,25 +87,26 @@ fn item_rule(kind: Kind, item: &EditItem) -> Option<u8>
     }
 }
 
-// Whether files of a kind have a field.
-fn has_field(kind: Kind, name: &FieldName) -> bool
-    ensures { result ≡ spec.has_field kind name.now }
+// Whether a file of a kind, with so many streams, can have a field.
+fn has_field(kind: Kind, streams: u32, name: &FieldName) -> bool
+    ensures { result ≡ facts.has_field kind streams name.now }
 {
     match name {
         FieldName::Bext(_) | FieldName::Whole(_) => is_wave(kind),
         FieldName::Info(_) => !is_movie(kind),
-        FieldName::User(_) => is_movie(kind),
+        FieldName::User(_) | FieldName::Key(_) => is_movie(kind),
+        FieldName::Stream(n) => kind == Kind::Avi && *n < streams,
     }
 }
 
 fn is_wave(kind: Kind) -> bool
-    ensures { result ≡ spec.is_wave kind }
+    ensures { result ≡ facts.is_wave kind }
 {
-    matches!(kind, Kind::Wave | Kind::Rf64)
+    matches!(kind, Kind::Wave | Kind::Rf64 | Kind::Bw64)
 }
 
 fn is_movie(kind: Kind) -> bool
-    ensures { result ≡ spec.is_movie kind }
+    ensures { result ≡ facts.is_movie kind }
 {
     matches!(kind, Kind::Mov)
 }

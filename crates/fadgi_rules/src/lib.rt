@@ -2,7 +2,7 @@
 //! It knows fields and edits alone, and no file. The first broken rule is found without taking memory.
 #![tactic(auto)]
 
-ghost use Rattle.std.specs.Prelude.{◌≡◌, [], IfOk};
+ghost use Rattle.std.specs.Prelude.{◌≡◌, ℕ, [], IfOk};
 ghost use Rattle.part_tree.specs.Fields.{values};
 ghost use Rattle.field_model.specs.Broken as spec;
 ghost use Rattle.field_model.specs.Lawful.{IsLawful};
@@ -10,6 +10,7 @@ ghost use Rattle.field_model.specs.Lawful.{IsLawful};
 mod changed;
 mod history;
 mod item;
+mod names;
 mod present;
 mod row;
 mod table;
@@ -25,16 +26,22 @@ use row::{all_by_fields, first_by_fields};
 use std::alloc::Global;
 pub use table::{RULES, RuleRow};
 
-/// The first rule of the chosen sets that an edit breaks, with the first field in field order that breaks it. None where it
-/// breaks none. It takes no memory.
-pub fn first_broken(kind: Kind, fields: &Fields, edit: &Edit, rules: RuleSet) -> Option<Broken>
+/// The first rule of the chosen sets that an edit of a file with so many streams breaks, with the first field in field order
+/// that breaks it. None where it breaks none. It takes no memory.
+pub fn first_broken(
+    kind: Kind,
+    streams: u32,
+    fields: &Fields,
+    edit: &Edit,
+    rules: RuleSet,
+) -> Option<Broken>
     requires { IsLawful (values fields.now) }
-    ensures { result ≡ spec.broken kind (values fields.now) edit.now rules }
+    ensures { result ≡ spec.broken kind streams (values fields.now) edit.now rules }
 {
     let items = edit.items();
-    match first_by_items(kind, fields, items) {
+    match first_by_items(kind, streams, fields, items) {
         Some(broken) => Some(broken),
-        None => first_by_fields(kind, fields, items, rules),
+        None => first_by_fields(kind, streams, fields, items, rules),
     }
 }
 
@@ -47,7 +54,7 @@ pub fn all_broken(
     rules: RuleSet,
 ) -> Result<Vec<Broken>, NoMemory>
     requires { IsLawful (values fields.now) }
-    ensures { IfOk result (λ v. v.items ≡ spec.findings kind (values fields.now) [] rules) }
+    ensures { (streams : ℕ) → IfOk result (λ v. v.items ≡ spec.findings kind streams (values fields.now) [] rules) }
 {
     all_by_fields(alloc, kind, fields, rules)
 }

@@ -8,7 +8,8 @@ ghost use Rattle.fadgi_rules.specs.Present as present;
 ghost use Rattle.fadgi_rules.specs.Rows as rows;
 
 use crate::row::FieldRule;
-use crate::text::{before_zero, text_fails};
+use crate::text::text_fails;
+use core_edit::{before_zero, key_text};
 use me_bytes::le16_at;
 use part_tree::{BextField, FieldName, Fields, Value};
 
@@ -61,8 +62,9 @@ fn plain_text<'a>(name: &FieldName, raw: &'a [u8]) -> Option<&'a [u8]>
             let text = before_zero(raw);
             if text.is_empty() { None } else { Some(text) }
         }
-        FieldName::Info(_) => Some(before_zero(raw)),
+        FieldName::Info(_) | FieldName::Stream(_) => Some(before_zero(raw)),
         FieldName::Whole(_) | FieldName::User(_) => Some(raw),
+        FieldName::Key(_) => key_text(raw),
     }
 }
 

@@ -1,17 +1,22 @@
 // The rules 14 to 24, on the fields after an edit.
-ghost use Rattle.std.specs.Prelude.{◌≡◌, ◌++◌, [], filter, IfOk, OnOk, None};
+ghost use Rattle.std.specs.Prelude.{◌≡◌, ◌++◌, ℕ, [], filter, IfOk, OnOk, None};
 ghost use Rattle.part_tree.specs.declared.field.RuleSet.TheVariants.{Base};
 ghost use Rattle.part_tree.specs.Fields.{values};
 ghost use Rattle.field_model.specs.Broken as spec;
+ghost use Rattle.field_model.specs.KindFacts.{facts};
 ghost use Rattle.field_model.specs.Lawful.{IsLawful};
 ghost use Rattle.field_model.specs.Update.{update};
 ghost use Rattle.core_edit.specs.Edits.{AreSound};
 ghost use Rattle.fadgi_rules.specs.Findings.{row_findings};
+ghost use Rattle.fadgi_rules.specs.Looked.{names_of};
 ghost use Rattle.fadgi_rules.specs.Rows as rows;
 
 use crate::changed::fails_after;
+use crate::names::Names;
 use crate::table::{RULES, RuleRow};
-use part_tree::{BextField, Broken, EditItem, FieldName, Fields, FourCc, Kind, NoMemory, RuleSet};
+use part_tree::{
+    BextField, Broken, EditItem, FieldName, Fields, FourCc, INFO_IDS, Kind, NoMemory, RuleSet,
+};
 use std::alloc::Global;
 
 /// A rule on fields.
@@ -53,49 +58,21 @@ pub const FIELD_RULES: [FieldRule; 11] = [
     FieldRule::HasDate,
 ];
 
-// The name of a child of a `LIST` of type `INFO`.
-macro_rules! info {
-    ($id:literal) => {
-        FieldName::Info(FourCc(*$id))
-    };
-}
-
-// The names of INFO in field order.
-const INFO_NAMES: [FieldName; 17] = [
-    info!(b"IARL"),
-    info!(b"IART"),
-    info!(b"ICMS"),
-    info!(b"ICMT"),
-    info!(b"ICOP"),
-    info!(b"ICRD"),
-    info!(b"IENG"),
-    info!(b"IGNR"),
-    info!(b"IKEY"),
-    info!(b"IMED"),
-    info!(b"INAM"),
-    info!(b"IPRD"),
-    info!(b"ISBJ"),
-    info!(b"ISFT"),
-    info!(b"ISRC"),
-    info!(b"ISRF"),
-    info!(b"ITCH"),
+const TEXTS: [BextField; 3] = [
+    BextField::Description,
+    BextField::Originator,
+    BextField::OriginatorReference,
 ];
 
-const TEXT_NAMES: [FieldName; 3] = [
-    FieldName::Bext(BextField::Description),
-    FieldName::Bext(BextField::Originator),
-    FieldName::Bext(BextField::OriginatorReference),
-];
+const TITLE: [FourCc; 1] = [FourCc(*b"INAM")];
 
-const CREATED: [FieldName; 1] = [info!(b"ICRD")];
+const ARCHIVE: [FourCc; 1] = [FourCc(*b"IARL")];
 
-const TITLE: [FieldName; 1] = [info!(b"INAM")];
+const CREATED: [FourCc; 1] = [FourCc(*b"ICRD")];
 
-const ARCHIVE: [FieldName; 1] = [info!(b"IARL")];
+const MOVIE_TITLE: [FourCc; 1] = [FourCc(*b"\xa9nam")];
 
-const MOVIE_TITLE: [FieldName; 1] = [FieldName::User(FourCc(*b"\xa9nam"))];
-
-const MOVIE_DATE: [FieldName; 1] = [FieldName::User(FourCc(*b"\xa9day"))];
+const MOVIE_DATE: [FourCc; 1] = [FourCc(*b"\xa9day")];
 
 // The table's row of a rule.
 fn row_of(rule: FieldRule) -> &'static RuleRow
@@ -130,52 +107,52 @@ fn chooses(chosen: RuleSet, set: RuleSet) -> bool
     )
 }
 
-// The fields that a rule looks at in files of a kind, in field order.
-fn fields_of(rule: FieldRule, kind: Kind) -> &'static [FieldName]
-    ensures { result.now ≡ rows.fields_of rule kind }
+// The fields that a rule looks at in files of a kind.
+fn fields_of(rule: FieldRule, kind: Kind) -> Names
+    ensures { names_of result ≡ rows.fields_of rule kind }
 {
     match rule {
-        FieldRule::History => &[FieldName::Bext(BextField::CodingHistory)],
-        FieldRule::Date => &[FieldName::Bext(BextField::OriginationDate)],
-        FieldRule::Time => &[FieldName::Bext(BextField::OriginationTime)],
-        FieldRule::Range => &[FieldName::Bext(BextField::LoudnessRange)],
-        FieldRule::Letters => &TEXT_NAMES,
-        FieldRule::Once => &INFO_NAMES,
-        FieldRule::End => &INFO_NAMES,
-        FieldRule::Created => &CREATED,
+        FieldRule::History => Names::Bext(&[BextField::CodingHistory]),
+        FieldRule::Date => Names::Bext(&[BextField::OriginationDate]),
+        FieldRule::Time => Names::Bext(&[BextField::OriginationTime]),
+        FieldRule::Range => Names::Bext(&[BextField::LoudnessRange]),
+        FieldRule::Letters => Names::Bext(&TEXTS),
+        FieldRule::Once => Names::Info(&INFO_IDS),
+        FieldRule::End => Names::Info(&INFO_IDS),
+        FieldRule::Created => Names::Info(&CREATED),
         FieldRule::HasDescription => description_fields(kind),
         FieldRule::HasOriginator => originator_fields(kind),
         FieldRule::HasDate => date_fields(kind),
     }
 }
 
-fn description_fields(kind: Kind) -> &'static [FieldName]
-    ensures { result.now ≡ spec.description_fields kind }
+fn description_fields(kind: Kind) -> Names
+    ensures { names_of result ≡ (facts kind).description }
 {
     match kind {
-        Kind::Avi => &TITLE,
-        Kind::Mov => &MOVIE_TITLE,
-        Kind::Wave | Kind::Rf64 => &[FieldName::Bext(BextField::Description)],
+        Kind::Avi => Names::Info(&TITLE),
+        Kind::Mov => Names::User(&MOVIE_TITLE),
+        Kind::Wave | Kind::Rf64 | Kind::Bw64 => Names::Bext(&[BextField::Description]),
     }
 }
 
-fn originator_fields(kind: Kind) -> &'static [FieldName]
-    ensures { result.now ≡ spec.originator_fields kind }
+fn originator_fields(kind: Kind) -> Names
+    ensures { names_of result ≡ (facts kind).originator }
 {
     match kind {
-        Kind::Avi => &ARCHIVE,
-        Kind::Mov => &[],
-        Kind::Wave | Kind::Rf64 => &[FieldName::Bext(BextField::Originator)],
+        Kind::Avi => Names::Info(&ARCHIVE),
+        Kind::Mov => Names::User(&[]),
+        Kind::Wave | Kind::Rf64 | Kind::Bw64 => Names::Bext(&[BextField::Originator]),
     }
 }
 
-fn date_fields(kind: Kind) -> &'static [FieldName]
-    ensures { result.now ≡ spec.date_fields kind }
+fn date_fields(kind: Kind) -> Names
+    ensures { names_of result ≡ (facts kind).date }
 {
     match kind {
-        Kind::Avi => &CREATED,
-        Kind::Mov => &MOVIE_DATE,
-        Kind::Wave | Kind::Rf64 => &[FieldName::Bext(BextField::OriginationDate)],
+        Kind::Avi => Names::Info(&CREATED),
+        Kind::Mov => Names::User(&MOVIE_DATE),
+        Kind::Wave | Kind::Rf64 | Kind::Bw64 => Names::Bext(&[BextField::OriginationDate]),
     }
 }
 
@@ -183,17 +160,18 @@ fn date_fields(kind: Kind) -> &'static [FieldName]
 /// the rules 1 to 13.
 pub fn first_by_fields(
     kind: Kind,
+    streams: u32,
     fields: &Fields,
     items: &[EditItem],
     rules: RuleSet,
 ) -> Option<Broken>
     requires lawful { IsLawful (values fields.now) }
     requires sound { AreSound items.now }
-    requires fine { spec.broken kind (values fields.now) items.now Base ≡ None }
-    ensures { result ≡ spec.broken kind (values fields.now) items.now rules }
+    requires fine { spec.broken kind streams (values fields.now) items.now Base ≡ None }
+    ensures { result ≡ spec.broken kind streams (values fields.now) items.now rules }
 {
     for rule in &FIELD_RULES {
-        match first_of_row(*rule, kind, fields, items, rules) {
+        match first_of_row(*rule, kind, streams, fields, items, rules) {
             Some(broken) => return Some(broken),
             None => {}
         }
@@ -205,20 +183,21 @@ pub fn first_by_fields(
 fn first_of_row(
     rule: FieldRule,
     kind: Kind,
+    streams: u32,
     fields: &Fields,
     items: &[EditItem],
     rules: RuleSet,
 ) -> Option<Broken>
     requires lawful { IsLawful (values fields.now) }
     requires sound { AreSound items.now }
-    requires fine { spec.broken kind (values fields.now) items.now Base ≡ None }
+    requires fine { spec.broken kind streams (values fields.now) items.now Base ≡ None }
     ensures { result ≡ spec.first_found (row_findings rule kind (values fields.now) items.now rules) }
 {
     let row = row_of(rule);
     if !chooses(rules, row.set) {
         return None;
     }
-    match first_failing(rule, kind, fields, items) {
+    match first_failing(rule, kind, streams, fields, items) {
         Some(field) => Some(Broken {
             rule: row.id,
             field,
@@ -231,17 +210,20 @@ fn first_of_row(
 fn first_failing(
     rule: FieldRule,
     kind: Kind,
+    streams: u32,
     fields: &Fields,
     items: &[EditItem],
 ) -> Option<FieldName>
     requires lawful { IsLawful (values fields.now) }
     requires sound { AreSound items.now }
-    requires fine { spec.broken kind (values fields.now) items.now Base ≡ None }
+    requires fine { spec.broken kind streams (values fields.now) items.now Base ≡ None }
     ensures { result ≡ rows.first_in (filter (rows.fails rule (update (values fields.now) items.now)) (rows.fields_of rule kind)) }
 {
-    for name in fields_of(rule, kind) {
-        if fails_after(rule, fields, items, name) {
-            return Some(*name);
+    let names = fields_of(rule, kind);
+    for k in 0..names.len() {
+        let name = names.at(k);
+        if fails_after(rule, fields, items, &name) {
+            return Some(name);
         }
     }
     None
@@ -255,7 +237,7 @@ pub fn all_by_fields(
     rules: RuleSet,
 ) -> Result<Vec<Broken>, NoMemory>
     requires { IsLawful (values fields.now) }
-    ensures { IfOk result (λ v. v.items ≡ spec.findings kind (values fields.now) [] rules) }
+    ensures { (streams : ℕ) → IfOk result (λ v. v.items ≡ spec.findings kind streams (values fields.now) [] rules) }
 {
     let mut found = Vec::new(alloc);
     for rule in &FIELD_RULES {
@@ -282,11 +264,13 @@ fn push_row(
     if !chooses(rules, row.set) {
         return Ok(());
     }
-    for name in fields_of(rule, kind) {
-        if fails_after(rule, fields, &[], name) {
+    let names = fields_of(rule, kind);
+    for k in 0..names.len() {
+        let name = names.at(k);
+        if fails_after(rule, fields, &[], &name) {
             match found.push(Broken {
                 rule: row.id,
-                field: *name,
+                field: name,
             }) {
                 Ok(()) => {}
                 Err(_) => return Err(NoMemory),

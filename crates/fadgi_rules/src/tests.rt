@@ -66,6 +66,16 @@ fn one_field(rt: HostRuntime) -> Result<(), Fail> {
     let rows = [
         sets(Kind::Wave, "@nam", b"x", RuleSet::Base, Some((1, "@nam"))),
         sets(Kind::Avi, "MD5", b"x", RuleSet::Base, Some((1, "MD5"))),
+        sets(Kind::Wave, "key:a", b"x", RuleSet::Base, Some((1, "key:a"))),
+        sets(Kind::Mov, "key:a", b"x", RuleSet::Base, None),
+        sets(Kind::Avi, "strn:0", b"x", RuleSet::Base, None),
+        sets(
+            Kind::Avi,
+            "strn:1",
+            b"x",
+            RuleSet::Base,
+            Some((1, "strn:1")),
+        ),
         sets(
             Kind::Wave,
             "Version",
@@ -156,7 +166,7 @@ fn one_field(rt: HostRuntime) -> Result<(), Fail> {
     for row in rows.iter() {
         let item = item(&rt, rt.alloc(), row.field, row.text)?;
         let edit = Edit::new(rt.alloc(), vec![in rt.alloc(); item]?).expect(&rt, "an edit");
-        let found = first_broken(row.kind, &fields, &edit, row.rules);
+        let found = first_broken(row.kind, 1, &fields, &edit, row.rules);
         assert!(rt; is_broken(found, row.broken), "{}", row.field);
     }
     Ok(())
@@ -170,7 +180,7 @@ fn the_lower_rule_and_the_first_field_are_told(rt: HostRuntime) -> Result<(), Fa
     let description = item(&rt, heap, "Description", Some(&[b'x'; 257]))?;
     let items = vec![in heap; title, originator, description]?;
     let edit = Edit::new(heap, items).expect(&rt, "an edit");
-    let found = first_broken(Kind::Wave, &Fields::new(heap), &edit, RuleSet::Base);
+    let found = first_broken(Kind::Wave, 0, &Fields::new(heap), &edit, RuleSet::Base);
     assert!(rt; is_broken(found, Some((5, "Description"))));
     Ok(())
 }

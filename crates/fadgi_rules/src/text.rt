@@ -5,7 +5,6 @@ ghost use Rattle.std.specs.List.{list_all, position_or_len};
 ghost use Rattle.field_model.specs.Dates as dates;
 ghost use Rattle.field_model.specs.Numbers as numbers;
 ghost use Rattle.field_model.specs.Rules.{is_printable};
-ghost use Rattle.field_model.specs.Shown as shown;
 ghost use Rattle.fadgi_rules.specs.Rows as rows;
 ghost use Rattle.fadgi_rules.specs.Days as tests;
 
@@ -45,13 +44,6 @@ pub fn place_of(byte: u8, text: &[u8]) -> usize
         k += 1;
     }
     k
-}
-
-/// The bytes before the first 0.
-pub fn before_zero(raw: &[u8]) -> &[u8]
-    ensures { result.now ≡ shown.before_zero raw.now }
-{
-    &raw[..place_of(0, raw)]
 }
 
 // Whether a text is a date that exists: it is one that the origination date can be set to.

@@ -12,7 +12,7 @@ use Rattle.part_tree.specs.declared.field.Change.{Change}
 use Rattle.part_tree.specs.declared.field.Change.TheVariants.{Set, Remove}
 use Rattle.part_tree.specs.declared.field.EditItem.{EditItem}
 use Rattle.part_tree.specs.declared.field.FieldName.{FieldName}
-use Rattle.part_tree.specs.declared.field.FieldName.TheVariants.{Bext, Info, Whole, User}
+use Rattle.part_tree.specs.declared.field.FieldName.TheVariants.{Bext, Info, Whole, User, Key, Stream}
 use Rattle.field_model.specs.Bext.{blank}
 use Rattle.field_model.specs.Body.{FillsRange, FitsBext, FitBext}
 use Rattle.field_model.specs.Dates.{fits, has_form, is_date, is_time, spelled_date, spelled_time}
@@ -112,6 +112,8 @@ written_fits (Bext field) text raw h = (refl, raw_fills field text raw h)
 written_fits (Info id) text raw h = tt
 written_fits (Whole id) text raw h = tt
 written_fits (User id) text raw h = tt
+written_fits (Key name) text raw h = tt
+written_fits (Stream n) text raw h = tt
 
 set_fits : (name : FieldName) (text : List ℕ) (e : List RawItem) → FitBext e → (o : Option (List ℕ)) → raw_of name text ≡ o → Joins e (raw_change name (Set text))
 set_fits name text e fit None h = let P : Option (List ℕ) → Type 0 = λ o. Joins e (option_map (written name) o) in subst P (sym h) fit
@@ -123,6 +125,8 @@ change_fits (Bext field) Remove e fit = ((refl, blank_fills field), fit)
 change_fits (Info id) Remove e fit = (tt, fit)
 change_fits (Whole id) Remove e fit = (tt, fit)
 change_fits (User id) Remove e fit = (tt, fit)
+change_fits (Key name) Remove e fit = (tt, fit)
+change_fits (Stream n) Remove e fit = (tt, fit)
 
 all_fit : (items : List EditItem) → FitBext (filter_map raw_item items)
 all_fit [] = tt

@@ -9,8 +9,9 @@ use Rattle.part_tree.specs.declared.field.FieldName.{FieldName}
 use Rattle.part_tree.specs.declared.field.RuleSet.{RuleSet}
 use Rattle.part_tree.specs.declared.field.RuleSet.TheVariants.{Base}
 use Rattle.part_tree.specs.declared.names.Kind.{Kind}
-use Rattle.field_model.specs.Broken.{Rule, on_item, chooses, failing, findings_from, findings, first_found, first_name, first_of, broken, has_field, set_fails, rules}
+use Rattle.field_model.specs.Broken.{Rule, on_item, chooses, failing, findings_from, findings, first_found, first_name, first_of, broken, set_fails, rules}
 use Rattle.field_model.specs.Fields.{FieldMap}
+use Rattle.field_model.specs.KindFacts.{has_field}
 use Rattle.field_model.specs.Rules.{too_long}
 use Rattle.field_model.specs.Update.{effective}
 
@@ -50,42 +51,42 @@ nil_found (b ∷ bs) e = absurd cc
 
 -- ---- one rule after the other
 
-module _ (kind : Kind) (f : FieldMap) (e : List EditItem) (sets : RuleSet) where
+module _ (kind : Kind) (streams : ℕ) (f : FieldMap) (e : List EditItem) (sets : RuleSet) where
   -- a rule that is chosen finds nothing
   abbrev FindsNone : Rule → Type 0
-  FindsNone r = chooses sets r.set ≡ true → failing r.test kind f e ≡ []
+  FindsNone r = chooses sets r.set ≡ true → failing r.test kind streams f e ≡ []
 
-  each_rule : (n : ℕ) (rs : List Rule) → findings_from n rs kind f e sets ≡ [] → AllByRecursion FindsNone rs
+  each_rule : (n : ℕ) (rs : List Rule) → findings_from n rs kind streams f e sets ≡ [] → AllByRecursion FindsNone rs
   each_rule n [] h = tt
   each_rule n (r ∷ rs) h =
-      let p = nil_parts (cond (chooses sets r.set) (map {B = Broken} (λ name. record { rule = n; field = name }) (failing r.test kind f e)) []) (findings_from (suc n) rs kind f e sets) h in
+      let p = nil_parts (cond (chooses sets r.set) (map {B = Broken} (λ name. record { rule = n; field = name }) (failing r.test kind streams f e)) []) (findings_from (suc n) rs kind streams f e sets) h in
       (λ c. chosen c p.0, each_rule (suc n) rs p.1)
     where
-      chosen : chooses sets r.set ≡ true → cond (chooses sets r.set) (map {B = Broken} (λ name. record { rule = n; field = name }) (failing r.test kind f e)) [] ≡ [] → failing r.test kind f e ≡ []
+      chosen : chooses sets r.set ≡ true → cond (chooses sets r.set) (map {B = Broken} (λ name. record { rule = n; field = name }) (failing r.test kind streams f e)) [] ≡ [] → failing r.test kind streams f e ≡ []
       chosen c none =
-          let all : map {B = Broken} (λ name. record { rule = n; field = name }) (failing r.test kind f e) ≡ [] = rw c at none in
-          nil_map {B = Broken} (λ name. record { rule = n; field = name }) (failing r.test kind f e) all
+          let all : map {B = Broken} (λ name. record { rule = n; field = name }) (failing r.test kind streams f e) ≡ [] = rw c at none in
+          nil_map {B = Broken} (λ name. record { rule = n; field = name }) (failing r.test kind streams f e) all
 
 -- no item with an effect fails a rule on items
-no_item : (fails : Kind → EditItem → Bool) (kind : Kind) (f : FieldMap) (e : List EditItem) → failing (on_item fails) kind f e ≡ [] → AllByRecursion (λ i. fails kind i ≡ false) (effective f e)
-no_item fails kind f e h =
-    nil_filter (fails kind) (effective f e) (nil_map (λ (i : EditItem). i.name) (filter (fails kind) (effective f e)) (nil_first (map (λ (i : EditItem). i.name) (filter (fails kind) (effective f e))) h))
+no_item : (fails : Kind → ℕ → EditItem → Bool) (kind : Kind) (streams : ℕ) (f : FieldMap) (e : List EditItem) → failing (on_item fails) kind streams f e ≡ [] → AllByRecursion (λ i. fails kind streams i ≡ false) (effective f e)
+no_item fails kind streams f e h =
+    nil_filter (fails kind streams) (effective f e) (nil_map (λ (i : EditItem). i.name) (filter (fails kind streams) (effective f e)) (nil_first (map (λ (i : EditItem). i.name) (filter (fails kind streams) (effective f e))) h))
 
 -- ---- what is kept
 
 -- The field is one that the kind has, and the text isn't too long.
-pub record Kept (kind : Kind) (i : EditItem) : Type 0 where
-  pub field : not (has_field kind i.name) ≡ false
+pub record Kept (kind : Kind) (streams : ℕ) (i : EditItem) : Type 0 where
+  pub field : not (has_field kind streams i.name) ≡ false
   pub short : set_fails too_long i.name i.change ≡ false
 
-kept_by : (kind : Kind) (es : List EditItem) → AllByRecursion (λ i. not (has_field kind i.name) ≡ false) es → AllByRecursion (λ i. set_fails too_long i.name i.change ≡ false) es → AllByRecursion (Kept kind) es
-kept_by kind [] h g = tt
-kept_by kind (i ∷ es) h g = (record { field = h.0; short = g.0 }, kept_by kind es h.1 g.1)
+kept_by : (kind : Kind) (streams : ℕ) (es : List EditItem) → AllByRecursion (λ i. not (has_field kind streams i.name) ≡ false) es → AllByRecursion (λ i. set_fails too_long i.name i.change ≡ false) es → AllByRecursion (Kept kind streams) es
+kept_by kind streams [] h g = tt
+kept_by kind streams (i ∷ es) h g = (record { field = h.0; short = g.0 }, kept_by kind streams es h.1 g.1)
 
 -- each item that has an effect, of an edit that breaks no basic rule
-pub base_kept : (kind : Kind) (f : FieldMap) (e : List EditItem) → broken kind f e Base ≡ None → AllByRecursion (Kept kind) (effective f e)
-base_kept kind f e none =
-    let all = each_rule kind f e Base 1 rules (nil_found (findings kind f e Base) none) in
+pub base_kept : (kind : Kind) (streams : ℕ) (f : FieldMap) (e : List EditItem) → broken kind streams f e Base ≡ None → AllByRecursion (Kept kind streams) (effective f e)
+base_kept kind streams f e none =
+    let all = each_rule kind streams f e Base 1 rules (nil_found (findings kind streams f e Base) none) in
     let first = all.0 refl in
     let last = all.1.1.1.1.1.1.1.1.1.1.1.1.0 refl in
-    kept_by kind (effective f e) (no_item (λ kind item. not (has_field kind item.name)) kind f e first) (no_item (λ kind item. set_fails too_long item.name item.change) kind f e last)
+    kept_by kind streams (effective f e) (no_item (λ kind streams item. not (has_field kind streams item.name)) kind streams f e first) (no_item (λ kind streams item. set_fails too_long item.name item.change) kind streams f e last)

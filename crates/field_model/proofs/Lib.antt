@@ -1,5 +1,8 @@
+pub mod Effective
+pub mod Fills
 pub mod Fits
 pub mod Kept
 pub mod Raised
+pub mod Names
 pub mod Ranges
 mod Rows

@@ -7,7 +7,7 @@ use Rattle.me_bytes.proofs.Laws.{length-le_bytes}
 use Rattle.part_tree.specs.declared.field.BextField.{BextField}
 use Rattle.part_tree.specs.declared.field.BextField.TheVariants.{Description, Originator, OriginatorReference, OriginationDate, OriginationTime, TimeReference, Version, Umid, LoudnessValue, LoudnessRange, MaxTruePeakLevel, MaxMomentaryLoudness, MaxShortTermLoudness, Reserved, CodingHistory}
 use Rattle.part_tree.specs.declared.field.FieldName.{FieldName}
-use Rattle.part_tree.specs.declared.field.FieldName.TheVariants.{Bext, Info, Whole, User}
+use Rattle.part_tree.specs.declared.field.FieldName.TheVariants.{Bext, Info, Whole, User, Key, Stream}
 use Rattle.part_tree.specs.declared.field.Form.{Form}
 use Rattle.part_tree.specs.declared.field.Form.TheVariants as form
 use Rattle.part_tree.specs.declared.field.Value.{Value}
@@ -196,6 +196,8 @@ item_long (Bext field) (Some v) body fits long = lay_long (bext_row field) v.raw
 item_long (Info id) value body fits long = long
 item_long (Whole id) value body fits long = long
 item_long (User id) value body fits long = long
+item_long (Key name) value body fits long = long
+item_long (Stream n) value body fits long = long
 
 item_value : (v : Value) → v.lang ≡ 0 → v ≡ plain v.raw
 item_value v e = let back : Value → ℕ → Value = λ w n. record { lang = n; raw = w.raw } in ap (back v) e
@@ -220,6 +222,8 @@ value_laid (Bext other) (Some v) field body fits long = go (bext_row other == be
 value_laid (Info id) value field body fits long = refl
 value_laid (Whole id) value field body fits long = refl
 value_laid (User id) value field body fits long = refl
+value_laid (Key name) value field body fits long = refl
+value_laid (Stream n) value field body fits long = refl
 
 pub values_laid : (e : List RawItem) (field : BextField) (body : List ℕ) → FitBext e → 602 ≤ length body
     → updated_values e (Bext field) (plain (range_of (bext_row field) body) ∷ []) ≡ plain (range_of (bext_row field) (lay_items e body)) ∷ []
@@ -253,6 +257,8 @@ untouched_item (Bext field) value body h = absurd cc
 untouched_item (Info id) value body h = (refl, refl)
 untouched_item (Whole id) value body h = (refl, refl)
 untouched_item (User id) value body h = (refl, refl)
+untouched_item (Key name) value body h = (refl, refl)
+untouched_item (Stream n) value body h = (refl, refl)
 
 raised_none : (body : List ℕ) → raised 0 body ≡ body
 raised_none body = cond-true (nat_le 0 (version body)) _ _ (le-leb 0 (version body) (omega arith))
@@ -322,3 +328,5 @@ updated_other e f (Bext field) other h = absurd cc
 updated_other e f (Info id) other h = kept e (Info id) (f (Info id)) h
 updated_other e f (Whole id) other h = kept e (Whole id) (f (Whole id)) h
 updated_other e f (User id) other h = kept e (User id) (f (User id)) h
+updated_other e f (Key name) other h = kept e (Key name) (f (Key name)) h
+updated_other e f (Stream n) other h = kept e (Stream n) (f (Stream n)) h

@@ -1,14 +1,14 @@
 -- Worked rows of the definitions, by computation.
-use Rattle.std.proofs.Common.{◌≡◌, ℕ, List, [], ◌∷◌, ◌++◌, replicate, map, true, false, Some, None, refl, codes}
+use Rattle.std.proofs.Common.{◌≡◌, ℕ, List, [], ◌∷◌, ◌++◌, replicate, map, nat_lt, true, false, Some, None, refl, codes}
 use Rattle.std.specs.Fmt.{digits}
 use Rattle.std.specs.Str.{chars, is_utf8}
 use Rattle.part_tree.specs.declared.field.BextField.TheVariants.{Description, Originator, OriginationDate, TimeReference, Version, Umid, LoudnessValue, LoudnessRange, CodingHistory}
 use Rattle.part_tree.specs.declared.field.Change.TheVariants.{Set, Remove}
 use Rattle.part_tree.specs.declared.field.EditItem.{EditItem}
 use Rattle.part_tree.specs.declared.field.FieldName.{FieldName}
-use Rattle.part_tree.specs.declared.field.FieldName.TheVariants.{Bext, Info, Whole, User}
+use Rattle.part_tree.specs.declared.field.FieldName.TheVariants.{Bext, Info, Whole, User, Key, Stream}
 use Rattle.part_tree.specs.declared.field.RuleSet.TheVariants.{Base, Ebu, Fadgi}
-use Rattle.part_tree.specs.declared.names.Kind.TheVariants.{Wave}
+use Rattle.part_tree.specs.declared.names.Kind.TheVariants.{Wave, Bw64, Avi, Mov}
 use Rattle.part_tree.specs.Letters.{four}
 use Rattle.part_tree.specs.Names.{bext_row, field_names, field_place}
 use Rattle.field_model.specs.Bext.{range_of, lay_range, new_body}
@@ -16,8 +16,10 @@ use Rattle.field_model.specs.Broken.{broken, findings}
 use Rattle.field_model.specs.Dates.{is_date, is_time, is_info_date, spelled_date}
 use Rattle.field_model.specs.Fields.{FieldMap, plain}
 use Rattle.field_model.specs.History.{is_history}
+use Rattle.field_model.specs.KindFacts.{has_field}
 use Rattle.field_model.specs.Numbers.{loudness_of, loudness_text, count_of}
-use Rattle.field_model.specs.Texts.{field_name}
+use Rattle.field_model.specs.Shown.{shown, shown_texts}
+use Rattle.field_model.specs.Texts.{field_name, name_text}
 use Rattle.field_model.specs.Update.{update, effective}
 
 abbrev pub info : List ℕ → FieldName
@@ -64,14 +66,51 @@ name_rows :
     (field_name (codes "INAM") ≡ Some (info (codes "INAM"))) × (field_name (codes "inam") ≡ None) × (field_name (codes "XXXX") ≡ None) × (field_name (codes "UMID") ≡ Some (Bext Umid)) × (field_name (codes "XMP") ≡ Some (Whole (four (codes "_PMX")))) × (field_name (codes "_PMX") ≡ None) × (field_name (codes "MD5") ≡ Some (Whole (four (codes "MD5 ")))) × (field_name (codes "Reserved") ≡ None) × (field_name (codes "@nam") ≡ Some (User (four (169 ∷ codes "nam")))) × (field_name (codes "@na") ≡ None) × (field_name (codes "@n.m") ≡ None) × (field_name [] ≡ None)
 name_rows = (refl, refl, refl, refl, refl, refl, refl, refl, refl, refl, refl, refl)
 
+-- names of keys and of streams, and texts that are none
+other_name_rows :
+    ((field_name (codes "key:a") ≡ Some (Key (codes "a"))) × (field_name (codes "key:com.apple.quicktime.title") ≡ Some (Key (codes "com.apple.quicktime.title"))) × (field_name (codes "key:") ≡ None) × (field_name (codes "key:a b") ≡ None) × (field_name (codes "key:a=b") ≡ None))
+    × ((field_name (codes "strn:0") ≡ Some (Stream 0)) × (field_name (codes "strn:4294967295") ≡ Some (Stream 4294967295)) × (field_name (codes "strn:4294967296") ≡ None) × (field_name (codes "strn:01") ≡ None) × (field_name (codes "strn:") ≡ None) × (field_name (codes "strn:-1") ≡ None))
+    × ((name_text (Key (codes "a")) ≡ Some (codes "key:a")) × (name_text (Key (codes "a=b")) ≡ None) × (name_text (Stream 10) ≡ Some (codes "strn:10")))
+unfolding digits
+other_name_rows = ((refl, refl, refl, refl, refl), (refl, refl, refl, refl, refl, refl), (refl, refl, refl))
+
+-- keys stand by their bytes behind all user types, streams by their numbers behind all keys
+other_place_rows :
+    (nat_lt (field_place (User (four (169 ∷ codes "zzz")))) (field_place (Key (codes "!"))) ≡ true)
+    × (nat_lt (field_place (Key (codes "a"))) (field_place (Key (codes "a!"))) ≡ true)
+    × (nat_lt (field_place (Key (codes "a!"))) (field_place (Key (codes "aa"))) ≡ true)
+    × (nat_lt (field_place (Key (codes "aa"))) (field_place (Key (codes "b"))) ≡ true)
+    × (nat_lt (field_place (Key (replicate 255 126))) (field_place (Stream 0)) ≡ true)
+    × (nat_lt (field_place (Stream 2)) (field_place (Stream 10)) ≡ true)
+other_place_rows = (refl, refl, refl, refl, refl, refl)
+
+-- a key is laid with its type and locale, and shows its text where the type is UTF-8; a stream's name ends with one 0
+other_value_rows :
+    let f : FieldMap = update none (set (Key (codes "a")) (codes "Hi") ∷ set (Stream 0) (codes "Cam") ∷ []) in
+    (f (Key (codes "a")) ≡ plain (0 ∷ 0 ∷ 0 ∷ 1 ∷ 0 ∷ 0 ∷ 0 ∷ 0 ∷ codes "Hi") ∷ []) × (shown_texts f (Key (codes "a")) ≡ codes "Hi" ∷ [])
+    × (shown none (Key (codes "a")) (plain (0 ∷ 0 ∷ 0 ∷ 21 ∷ 0 ∷ 0 ∷ 0 ∷ 0 ∷ 7 ∷ [])) ≡ None)
+    × (f (Stream 0) ≡ plain (codes "Cam" ++ 0 ∷ []) ∷ []) × (shown_texts f (Stream 0) ≡ codes "Cam" ∷ []) × (f (Stream 1) ≡ [])
+    × (effective f (set (Key (codes "a")) (codes "Hi") ∷ []) ≡ []) × (update f (remove (Key (codes "a")) ∷ []) (Key (codes "a")) ≡ [])
+other_value_rows = (refl, refl, refl, refl, refl, refl, refl, refl)
+
+-- which kinds have keys and streams, and which texts they can't have
+other_rule_rows :
+    (broken Wave 0 none (set (Key (codes "a")) (codes "x") ∷ []) Base ≡ Some (record { rule = 1; field = Key (codes "a") }))
+    × (broken Avi 1 none (set (Stream 1) (codes "x") ∷ []) Base ≡ Some (record { rule = 1; field = Stream 1 }))
+    × (has_field Avi 1 (Stream 0) ≡ true) × (has_field Mov 0 (Key (codes "a")) ≡ true) × (has_field Bw64 0 (Bext Description) ≡ true) × (has_field Bw64 1 (Stream 0) ≡ false)
+    × (broken Mov 0 none (set (Key (codes "a")) (0 ∷ []) ∷ []) Base ≡ Some (record { rule = 3; field = Key (codes "a") }))
+    × (broken Mov 0 none (set (Key (codes "a")) (255 ∷ []) ∷ []) Base ≡ Some (record { rule = 12; field = Key (codes "a") }))
+unfolding chars is_utf8
+other_rule_rows = (refl, refl, refl, refl, refl, refl, refl, refl)
+
 -- the names are in field order, one after the other
 place_rows : map field_place field_names ≡ 0 ∷ 1 ∷ 2 ∷ 3 ∷ 4 ∷ 5 ∷ 6 ∷ 7 ∷ 8 ∷ 9 ∷ 10 ∷ 11 ∷ 12 ∷ 13 ∷ 14 ∷ 15 ∷ 16 ∷ 17 ∷ 18 ∷ 19 ∷ 20 ∷ 21 ∷ 22 ∷ 23 ∷ 24 ∷ 25 ∷ 26 ∷ 27 ∷ 28 ∷ 29 ∷ 30 ∷ 31 ∷ 32 ∷ 33 ∷ 34 ∷ 35 ∷ []
 place_rows = refl
 
 -- 256 letters fit a description, 257 don't; a plain file without bext gets one
 description_rows :
-    (broken Wave none (set (Bext Description) (replicate 256 120) ∷ []) Base ≡ None)
-    × (broken Wave none (set (Bext Description) (replicate 257 120) ∷ []) Base ≡ Some (record { rule = 5; field = Bext Description }))
+    (broken Wave 0 none (set (Bext Description) (replicate 256 120) ∷ []) Base ≡ None)
+    × (broken Wave 0 none (set (Bext Description) (replicate 257 120) ∷ []) Base ≡ Some (record { rule = 5; field = Bext Description }))
     × (update none (set (Bext Description) (replicate 256 120) ∷ []) (Bext Description) ≡ plain (replicate 256 120) ∷ [])
     × (update none (set (Bext Description) (replicate 256 120) ∷ []) (Bext Version) ≡ plain (0 ∷ 0 ∷ []) ∷ [])
 unfolding chars is_utf8
@@ -98,16 +137,16 @@ info_rows :
 info_rows = (refl, refl, refl)
 
 -- a file without fields breaks the three rules of fadgi
-finding_rows : findings Wave none [] Fadgi ≡ record { rule = 22; field = Bext Description } ∷ record { rule = 23; field = Bext Originator } ∷ record { rule = 24; field = Bext OriginationDate } ∷ []
+finding_rows : findings Wave 0 none [] Fadgi ≡ record { rule = 22; field = Bext Description } ∷ record { rule = 23; field = Bext Originator } ∷ record { rule = 24; field = Bext OriginationDate } ∷ []
 finding_rows = refl
 
 -- a coding history that isn't a line, a description without an originator, and user data in WAVE
 rule_rows :
-    (broken Wave none (set (Bext CodingHistory) (codes "A=PCM") ∷ []) Ebu ≡ Some (record { rule = 14; field = Bext CodingHistory }))
-    × (broken Wave none (set (Bext Description) (codes "x") ∷ []) Fadgi ≡ Some (record { rule = 23; field = Bext Originator }))
-    × (broken Wave none (set (User (four (169 ∷ codes "nam"))) (codes "x") ∷ []) Base ≡ Some (record { rule = 1; field = User (four (169 ∷ codes "nam")) }))
-    × (broken Wave none (set (info (codes "INAM")) (255 ∷ []) ∷ []) Base ≡ Some (record { rule = 12; field = info (codes "INAM") }))
-    × (broken Wave none (set (Whole (four (codes "axml"))) (255 ∷ []) ∷ []) Base ≡ None)
+    (broken Wave 0 none (set (Bext CodingHistory) (codes "A=PCM") ∷ []) Ebu ≡ Some (record { rule = 14; field = Bext CodingHistory }))
+    × (broken Wave 0 none (set (Bext Description) (codes "x") ∷ []) Fadgi ≡ Some (record { rule = 23; field = Bext Originator }))
+    × (broken Wave 0 none (set (User (four (169 ∷ codes "nam"))) (codes "x") ∷ []) Base ≡ Some (record { rule = 1; field = User (four (169 ∷ codes "nam")) }))
+    × (broken Wave 0 none (set (info (codes "INAM")) (255 ∷ []) ∷ []) Base ≡ Some (record { rule = 12; field = info (codes "INAM") }))
+    × (broken Wave 0 none (set (Whole (four (codes "axml"))) (255 ∷ []) ∷ []) Base ≡ None)
 unfolding chars is_utf8
 rule_rows = (refl, refl, refl, refl, refl)
 

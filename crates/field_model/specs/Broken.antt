@@ -12,20 +12,20 @@ use Rattle.part_tree.specs.declared.field.RuleSet.{RuleSet}
 use Rattle.part_tree.specs.declared.field.RuleSet.TheVariants.{Base, Ebu, Fadgi}
 use Rattle.part_tree.specs.declared.field.RuleSet.TheVariants as set
 use Rattle.part_tree.specs.declared.names.Kind.{Kind}
-use Rattle.part_tree.specs.declared.names.Kind.TheVariants.{Wave, Rf64, Avi, Mov}
 use Rattle.part_tree.specs.Letters.{four}
 use Rattle.part_tree.specs.Names.{field_place, info_ids}
 use Rattle.field_model.specs.Dates.{is_date, is_time, is_info_date}
 use Rattle.field_model.specs.Fields.{FieldMap}
 use Rattle.field_model.specs.History.{is_history}
+use Rattle.field_model.specs.KindFacts.{facts, has_field}
 use Rattle.field_model.specs.Numbers.{is_negative}
 use Rattle.field_model.specs.Rules.{TextRule, is_printable, sets_version, has_nul, has_other_letter, too_wide, no_date, no_time, no_count, no_loudness_text, no_umid, no_checksum, no_utf8, too_long}
 use Rattle.field_model.specs.Shown.{shown_texts}
 use Rattle.field_model.specs.Update.{effective, update}
 
--- A rule looks at the items that have an effect, or, in files of a kind, at some fields after the edit.
+-- A rule looks at the items that have an effect, in a file of a kind with so many streams, or at some fields after the edit.
 pub data Test : Type 0 where
-  on_item : (Kind → EditItem → Bool) → Test
+  on_item : (Kind → ℕ → EditItem → Bool) → Test
   on_fields : (Kind → List FieldName) → (FieldMap → FieldName → Bool) → Test
 
 -- a rule: the set that it belongs to, and its test
@@ -35,25 +35,6 @@ pub record Rule : Type 0 where
 
 -- ---- rules on items
 
--- the kinds of files that have a field
-abbrev pub is_wave : Kind → Bool
-is_wave Wave = true
-is_wave Rf64 = true
-is_wave Avi = false
-is_wave Mov = false
-
--- whether a file is a QuickTime movie
-abbrev pub is_movie : Kind → Bool
-is_movie Mov = true
-is_movie _ = false
-
--- whether a file of a kind can have a field
-abbrev pub has_field : Kind → FieldName → Bool
-has_field kind (name.Bext field) = is_wave kind
-has_field kind (name.Info id) = not (is_movie kind)
-has_field kind (name.Whole id) = is_wave kind
-has_field kind (name.User id) = is_movie kind
-
 -- a rule on texts, of the item that sets one
 abbrev pub set_fails : TextRule → FieldName → Change → Bool
 set_fails rule name (Set text) = rule name text
@@ -61,7 +42,7 @@ set_fails rule name Remove = false
 
 -- a rule that looks at each text that is set
 abbrev pub on_text : TextRule → Test
-on_text rule = on_item (λ kind item. set_fails rule item.name item.change)
+on_text rule = on_item (λ kind streams item. set_fails rule item.name item.change)
 
 -- ---- rules on fields
 
@@ -91,24 +72,6 @@ on_bext names fails = on_fields (always names) (some_text fails)
 abbrev pub info_names : List FieldName
 info_names = map (λ id. name.Info (four id)) info_ids
 
--- the fields that tell what a file holds, who made it and when, in a file of each kind
-abbrev pub description_fields : Kind → List FieldName
-description_fields Avi = name.Info (four (codes "INAM")) ∷ []
-description_fields Mov = name.User (four (169 ∷ codes "nam")) ∷ []
-description_fields _ = name.Bext Description ∷ []
-
--- the fields that tell who made it
-abbrev pub originator_fields : Kind → List FieldName
-originator_fields Avi = name.Info (four (codes "IARL")) ∷ []
-originator_fields Mov = []
-originator_fields _ = name.Bext Originator ∷ []
-
--- the fields that tell when it was made
-abbrev pub date_fields : Kind → List FieldName
-date_fields Avi = name.Info (four (codes "ICRD")) ∷ []
-date_fields Mov = name.User (four (169 ∷ codes "day")) ∷ []
-date_fields _ = name.Bext OriginationDate ∷ []
-
 -- ---- the table
 
 -- a rule of the set Base
@@ -130,8 +93,8 @@ fadgi test = record { set = Fadgi; test = test }
 -- the 24 rules, in order
 abbrev pub rules : List Rule
 rules =
-    base (on_item (λ kind item. not (has_field kind item.name)))
-    ∷ base (on_item (λ kind item. sets_version item.name []))
+    base (on_item (λ kind streams item. not (has_field kind streams item.name)))
+    ∷ base (on_item (λ kind streams item. sets_version item.name []))
     ∷ base (on_text has_nul)
     ∷ base (on_text has_other_letter)
     ∷ base (on_text too_wide)
@@ -151,9 +114,9 @@ rules =
     ∷ info (on_fields (always info_names) (λ f name. nat_lt 1 (length (f name))))
     ∷ info (on_fields (always info_names) (λ f name. list_any (λ v. not (ends_with_zero v.raw)) (f name)))
     ∷ info (on_fields (always (name.Info (four (codes "ICRD")) ∷ [])) (some_text (λ text. not (is_info_date text))))
-    ∷ fadgi (on_fields description_fields shows_too_little)
-    ∷ fadgi (on_fields originator_fields shows_too_little)
-    ∷ fadgi (on_fields date_fields shows_too_little)
+    ∷ fadgi (on_fields (λ kind. (facts kind).description) shows_too_little)
+    ∷ fadgi (on_fields (λ kind. (facts kind).originator) shows_too_little)
+    ∷ fadgi (on_fields (λ kind. (facts kind).date) shows_too_little)
     ∷ []
 
 -- ---- which rules are broken
@@ -177,19 +140,19 @@ first_name [] = []
 first_name (name ∷ names) = first_of name (first_name names)
 
 -- the fields that break a rule, in field order; of the items' rules the first
-abbrev pub failing : Test → Kind → FieldMap → List EditItem → List FieldName
-failing (on_item fails) kind f e = first_name (map (λ item. item.name) (filter (fails kind) (effective f e)))
-failing (on_fields names fails) kind f e = filter (fails (update f e)) (names kind)
+abbrev pub failing : Test → Kind → ℕ → FieldMap → List EditItem → List FieldName
+failing (on_item fails) kind streams f e = first_name (map (λ item. item.name) (filter (fails kind streams) (effective f e)))
+failing (on_fields names fails) kind streams f e = filter (fails (update f e)) (names kind)
 
 -- each chosen rule that is broken, by its number from n on, and each field that breaks it
-abbrev pub findings_from : ℕ → List Rule → Kind → FieldMap → List EditItem → RuleSet → List Broken
-findings_from n [] kind f e sets = []
-findings_from n (r ∷ rs) kind f e sets =
-    (if chooses sets r.set then map (λ name. record { rule = n; field = name }) (failing r.test kind f e) else []) ++ findings_from (suc n) rs kind f e sets
+abbrev pub findings_from : ℕ → List Rule → Kind → ℕ → FieldMap → List EditItem → RuleSet → List Broken
+findings_from n [] kind streams f e sets = []
+findings_from n (r ∷ rs) kind streams f e sets =
+    (if chooses sets r.set then map (λ name. record { rule = n; field = name }) (failing r.test kind streams f e) else []) ++ findings_from (suc n) rs kind streams f e sets
 
--- each chosen rule that is broken, and each field that breaks it
-abbrev pub findings : Kind → FieldMap → List EditItem → RuleSet → List Broken
-findings kind f e sets = findings_from 1 rules kind f e sets
+-- each chosen rule that is broken, and each field that breaks it, in a file of a kind with so many streams
+abbrev pub findings : Kind → ℕ → FieldMap → List EditItem → RuleSet → List Broken
+findings kind streams f e sets = findings_from 1 rules kind streams f e sets
 
 -- the first finding, if there is one
 abbrev pub first_found : List Broken → Option Broken
@@ -197,5 +160,5 @@ first_found [] = None
 first_found (b ∷ bs) = Some b
 
 -- the first rule that is broken, with the first field in field order that breaks it
-abbrev pub broken : Kind → FieldMap → List EditItem → RuleSet → Option Broken
-broken kind f e sets = first_found (findings kind f e sets)
+abbrev pub broken : Kind → ℕ → FieldMap → List EditItem → RuleSet → Option Broken
+broken kind streams f e sets = first_found (findings kind streams f e sets)

@@ -2,7 +2,7 @@
 use Rattle.std.specs.Prelude.{◌≡◌, ℕ, List, [], ◌∷◌, length, ◌⊎◌}
 use Rattle.part_tree.specs.declared.field.BextField.{BextField}
 use Rattle.part_tree.specs.declared.field.FieldName.{FieldName}
-use Rattle.part_tree.specs.declared.field.FieldName.TheVariants.{Bext, Info, Whole, User}
+use Rattle.part_tree.specs.declared.field.FieldName.TheVariants.{Bext, Info, Whole, User, Key, Stream}
 use Rattle.part_tree.specs.declared.field.Value.{Value}
 use Rattle.field_model.specs.Body.{FillsRange}
 use Rattle.field_model.specs.Fields.{FieldMap}
@@ -21,3 +21,5 @@ FillsName (Bext field) raw = FillsRange field raw
 FillsName (Info id) raw = Unit {0}
 FillsName (Whole id) raw = Unit {0}
 FillsName (User id) raw = Unit {0}
+FillsName (Key name) raw = Unit {0}
+FillsName (Stream n) raw = Unit {0}

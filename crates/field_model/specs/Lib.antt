@@ -4,6 +4,9 @@ pub mod Broken
 pub mod Dates
 pub mod Fields
 pub mod History
+pub mod Kind
+pub mod KindFacts
+pub mod KindReads
 pub mod Lawful
 pub mod Numbers
 pub mod Raw

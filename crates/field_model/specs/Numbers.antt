@@ -11,9 +11,13 @@ abbrev pub is_numeral : List ℕ → Bool
 is_numeral [] = false
 is_numeral (x ∷ xs) = list_all is_ascii_digit (x ∷ xs) && ((length xs == 0) || not (x == 48))
 
--- the number that a text writes, where it is decimal and below 2^64
+-- the number that a text writes, where it is decimal and below a bound
+abbrev pub number_below : ℕ → List ℕ → Option ℕ
+number_below bound text = if is_numeral text && nat_lt (digits_value 10 text) bound then Some (digits_value 10 text) else None
+
+-- the same below 2^64
 abbrev pub count_of : List ℕ → Option ℕ
-count_of text = if is_numeral text && nat_lt (digits_value 10 text) (2 ^ 64) then Some (digits_value 10 text) else None
+count_of text = number_below (2 ^ 64) text
 
 -- ---- loudness: a number of 16 bits with a sign, in hundredths (EBU Tech 3285, version 2)
 

@@ -3,7 +3,7 @@ use Rattle.std.specs.Prelude.{ℕ, ◌+◌, List, [], ◌∷◌, length, Bool, t
 use Rattle.std.specs.List.{list_all, list_any}
 use Rattle.std.specs.Str.{bytes_eq, is_utf8}
 use Rattle.part_tree.specs.declared.field.FieldName.{FieldName}
-use Rattle.part_tree.specs.declared.field.FieldName.TheVariants.{Bext, Info, Whole, User}
+use Rattle.part_tree.specs.declared.field.FieldName.TheVariants.{Bext, Info, Whole, User, Key, Stream}
 use Rattle.part_tree.specs.declared.field.Form.{Form}
 use Rattle.part_tree.specs.declared.field.Form.TheVariants.{Text, Date, Time, Count, Version, Umid, Loudness}
 use Rattle.part_tree.specs.Names.{bext_row}
@@ -37,10 +37,12 @@ abbrev pub is_info : FieldName → Bool
 is_info (Info id) = true
 is_info _ = false
 
--- whether a name is of user data
-abbrev pub is_user : FieldName → Bool
-is_user (User id) = true
-is_user _ = false
+-- whether a name is of user data, a key or a stream: their texts are short
+abbrev pub is_short : FieldName → Bool
+is_short (User id) = true
+is_short (Key name) = true
+is_short (Stream n) = true
+is_short _ = false
 
 -- whether a name is of a whole chunk
 abbrev pub is_whole : FieldName → Bool
@@ -61,9 +63,9 @@ is_history_name _ = false
 abbrev pub sets_version : TextRule
 sets_version name text = is_form Version name
 
--- 3, BASE-NUL: no byte 0 in a text of bext, INFO or user data
+-- 3, BASE-NUL: no byte 0 in a text of bext, INFO, user data, a key or a stream
 abbrev pub has_nul : TextRule
-has_nul name text = (is_form Text name || is_info name || is_user name) && list_any (λ x. x == 0) text
+has_nul name text = (is_form Text name || is_info name || is_short name) && list_any (λ x. x == 0) text
 
 -- a byte from 20 to 7E
 abbrev pub is_printable : ℕ → Bool
@@ -110,14 +112,14 @@ no_umid name text = is_form Umid name && not (is_hex 128 text)
 abbrev pub no_checksum : TextRule
 no_checksum name text = is_checksum name && not (is_hex 32 text)
 
--- 12, BASE-UTF8: a text of INFO or user data is UTF-8
+-- 12, BASE-UTF8: a text of INFO, user data, a key or a stream is UTF-8
 abbrev pub no_utf8 : TextRule
-no_utf8 name text = (is_info name || is_user name) && not (is_utf8 text)
+no_utf8 name text = (is_info name || is_short name) && not (is_utf8 text)
 
--- 13, BASE-LONG: user texts to 65,535 bytes, INFO and the coding history to 1 MiB, whole chunks to 16 MiB
+-- 13, BASE-LONG: texts of user data, keys and streams to 65,535 bytes, INFO and the coding history to 1 MiB, whole chunks to 16 MiB
 abbrev pub too_long : TextRule
 too_long name text =
-    (is_user name && nat_lt 65535 (length text))
+    (is_short name && nat_lt 65535 (length text))
     || ((is_info name || is_history_name name) && nat_lt 1048576 (length text))
     || (is_whole name && not (is_checksum name) && nat_lt 16777216 (length text))
 

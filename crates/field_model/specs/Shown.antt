@@ -1,10 +1,10 @@
 -- The text that a value shows, or none (this project's own).
-use Rattle.std.specs.Prelude.{ℕ, List, length, Bool, true, false, not, ◌||◌, ◌==◌, nat_lt, if◌then◌else◌, Option, Some, None, take_while, decimal, codes}
+use Rattle.std.specs.Prelude.{ℕ, List, length, Bool, true, false, not, ◌||◌, ◌==◌, nat_lt, if◌then◌else◌, Option, Some, None, take, drop, take_while, decimal, codes}
 use Rattle.std.specs.List.{list_all, filter_map}
 use Rattle.std.specs.Str.{bytes_eq}
-use Rattle.me_bytes.specs.Bytes.{le}
+use Rattle.me_bytes.specs.Bytes.{le, be_bytes}
 use Rattle.part_tree.specs.declared.field.FieldName.{FieldName}
-use Rattle.part_tree.specs.declared.field.FieldName.TheVariants.{Bext, Info, Whole, User}
+use Rattle.part_tree.specs.declared.field.FieldName.TheVariants.{Bext, Info, Whole, User, Key, Stream}
 use Rattle.part_tree.specs.declared.field.Form.{Form}
 use Rattle.part_tree.specs.declared.field.Form.TheVariants.{Text, Date, Time, Count, Version, Umid, Loudness, Reserved}
 use Rattle.part_tree.specs.declared.field.Value.{Value}
@@ -47,12 +47,18 @@ shown_form Reserved version raw = None
 abbrev pub shown_whole : List ℕ → List ℕ → List ℕ
 shown_whole id raw = if bytes_eq id (codes "MD5 ") then hex_text false raw else raw
 
+-- a value of a key shows what stands behind its type and its locale, where its type is UTF-8
+abbrev pub shown_key : List ℕ → Option (List ℕ)
+shown_key raw = if bytes_eq (take 4 raw) (be_bytes 4 1) then Some (drop 8 raw) else None
+
 -- what a value of a field shows, among these fields
 abbrev pub shown : FieldMap → FieldName → Value → Option (List ℕ)
 shown f (Bext field) value = shown_form (form_of field) (version_of f) value.raw
 shown f (Info id) value = Some (before_zero value.raw)
 shown f (Whole id) value = Some (shown_whole id.0 value.raw)
 shown f (User id) value = Some value.raw
+shown f (Key name) value = shown_key value.raw
+shown f (Stream n) value = Some (before_zero value.raw)
 
 -- the texts that a name shows, in file order
 abbrev pub shown_texts : FieldMap → FieldName → List (List ℕ)

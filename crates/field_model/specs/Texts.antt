@@ -1,12 +1,14 @@
 -- The names of fields as texts (this project's own).
-use Rattle.std.specs.Prelude.{ℕ, List, ◌∷◌, take, drop, Bool, false, ◌&&◌, if◌then◌else◌, Option, Some, None, find, codes}
+use Rattle.std.specs.Prelude.{ℕ, ◌^◌, List, ◌∷◌, ◌++◌, decimal, take, drop, Bool, false, ◌&&◌, if◌then◌else◌, Option, Some, None, option_map, find, codes}
 use Rattle.std.specs.Str.{bytes_eq}
 use Rattle.part_tree.specs.declared.field.BextField.{BextField}
 use Rattle.part_tree.specs.declared.field.BextField.TheVariants.{Description, Originator, OriginatorReference, OriginationDate, OriginationTime, TimeReference, Version, Umid, LoudnessValue, LoudnessRange, MaxTruePeakLevel, MaxMomentaryLoudness, MaxShortTermLoudness, Reserved, CodingHistory}
 use Rattle.part_tree.specs.declared.field.FieldName.{FieldName}
-use Rattle.part_tree.specs.declared.field.FieldName.TheVariants.{Bext, Info, Whole, User}
+use Rattle.part_tree.specs.declared.field.FieldName.TheVariants.{Bext, Info, Whole, User, Key, Stream}
+use Rattle.part_tree.specs.Keys.{is_key_name}
 use Rattle.part_tree.specs.Letters.{four}
 use Rattle.part_tree.specs.Names.{field_names, is_field_name, is_user_type}
+use Rattle.field_model.specs.Numbers.{number_below}
 
 -- the name of a field of bext as the standard writes it; the reserved bytes have none
 abbrev pub bext_text : BextField → Option (List ℕ)
@@ -36,6 +38,8 @@ text_of (Bext field) = bext_text field
 text_of (Info id) = Some id.0
 text_of (Whole id) = Some (whole_text id.0)
 text_of (User id) = Some (64 ∷ drop 1 id.0)
+text_of (Key name) = Some (codes "key:" ++ name)
+text_of (Stream n) = Some (codes "strn:" ++ decimal n)
 
 -- the text of a name that is a field's
 abbrev pub name_text : FieldName → Option (List ℕ)
@@ -54,11 +58,19 @@ user_type text = 169 ∷ drop 1 text
 abbrev pub user_name : List ℕ → Option FieldName
 user_name text = if bytes_eq (take 1 text) (codes "@") && is_user_type (user_type text) then Some (User (four (user_type text))) else None
 
--- the field that a text names: the one that has it as its text, or a user field
-abbrev pub or_user : List ℕ → Option FieldName → Option FieldName
-or_user text None = user_name text
-or_user text (Some name) = Some name
+-- a key is `key:` and its name
+abbrev pub key_name : List ℕ → Option FieldName
+key_name text = if bytes_eq (take 4 text) (codes "key:") && is_key_name (drop 4 text) then Some (Key (drop 4 text)) else None
 
--- the field that a text names
+-- a stream is `strn:` and its number, decimal, without leading zeros and below 2^32
+abbrev pub stream_name : List ℕ → Option FieldName
+stream_name text = if bytes_eq (take 5 text) (codes "strn:") then option_map Stream (number_below (2 ^ 32) (drop 5 text)) else None
+
+-- the first of two names that is there
+abbrev pub or_name : Option FieldName → Option FieldName → Option FieldName
+or_name None other = other
+or_name (Some name) other = Some name
+
+-- the field that a text names: one of those that are few, or a user field, a key or a stream
 abbrev pub field_name : List ℕ → Option FieldName
-field_name text = or_user text (find (λ name. is_text text (name_text name)) field_names)
+field_name text = or_name (find (λ name. is_text text (name_text name)) field_names) (or_name (user_name text) (or_name (key_name text) (stream_name text)))

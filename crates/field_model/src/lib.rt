@@ -2,7 +2,7 @@
 //! which rules it breaks. Definitions, and laws of them; the crates above meet them in code.
 #![tactic(auto)]
 
-ghost use Rattle.std.specs.Prelude.{◌≡◌, ◌≤◌, ℕ, List, [], ◌∷◌, true, false, length};
+ghost use Rattle.std.specs.Prelude.{◌≡◌, ◌≤◌, ℕ, List, [], ◌∷◌, true, false, length, Some};
 ghost use Rattle.std.specs.List.{list_any};
 ghost use Rattle.part_tree.specs.Names.{bext_row, same_name};
 ghost use Rattle.part_tree.specs.declared.field.BextField.{BextField};
@@ -12,6 +12,7 @@ ghost use Rattle.part_tree.specs.declared.field.FieldName.TheVariants.{Bext};
 ghost use Rattle.field_model.specs.Bext.{range_of, new_body};
 ghost use Rattle.field_model.specs.Body.{AreRanges, edited_bext};
 ghost use Rattle.field_model.specs.Fields.{FieldMap, plain};
+ghost use Rattle.field_model.specs.Texts.{field_name, name_text};
 ghost use Rattle.field_model.specs.Update.{is_bext, raw_items, update};
 
 /// The fields of `bext` after an edit are the ranges of its body after the edit: raised once, then each item laid.
@@ -30,4 +31,11 @@ pub fn other_fields_stay()
         → list_any (λ i. same_name i.name name) (raw_items f e) ≡ false → update f e name ≡ f name }
     ensures bext { (f : FieldMap) (e : List EditItem) (field : BextField)
         → list_any (λ i. is_bext i.name) (raw_items f e) ≡ false → update f e (Bext field) ≡ f (Bext field) }
+{}
+
+/// Names and their texts are the inverse of each other: the field that a text names has that text as its name, and the name
+/// that a field has as its text names it.
+pub fn texts_are_names()
+    ensures read { (text : List ℕ) (name : FieldName) → field_name text ≡ Some name → name_text name ≡ Some text }
+    ensures written { (name : FieldName) (text : List ℕ) → name_text name ≡ Some text → field_name text ≡ Some name }
 {}

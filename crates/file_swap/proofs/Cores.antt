@@ -5,7 +5,7 @@ use Rattle.me_disk.specs.declared.depot.DepotFault.{DepotFault}
 use Rattle.part_tree.specs.declared.plan.Plan.{Plan}
 use Rattle.me_disk.specs.Disk.{Disk, IsLawful, Leaves}
 use Rattle.me_disk.specs.Steps.{Writes}
-use Rattle.file_swap.specs.Steps.{Step, steps, calls, step_at, step_bytes}
+use Rattle.file_swap.specs.Steps.{Step, Change, changed, steps, calls, step_at, step_bytes}
 use Rattle.file_swap.specs.Steps.Step.{Appends}
 use Rattle.part_tree.specs.Plans.{CanRun, Belongs}
 use Rattle.file_swap.specs.Midway.{Midway, IsNear, held_at}
@@ -32,9 +32,9 @@ pub some_more : (m : Machine) → IsMachine m → (left m ≡ [] → ⊥) → (m
 some_more (InPlace p) sound more = Stages.stage_more p.work p.stage (Stages.not_ended p.work p.stage more) sound.stage
 some_more (Rewrite r) sound more = Copies.stage_more r.parts r.stage (Copies.not_ended r.parts r.stage more) sound.stage
 
-pub held_length : (m : Machine) → IsMachine m → (n : ℕ) → step_of m ≡ Appends n → length (held_of m) ≡ n
-held_length (InPlace p) sound n is = absurd cc
-held_length (Rewrite r) sound n is = Copies.rewriting_size r n sound is
+pub held_length : (m : Machine) → IsMachine m → (n : ℕ) (change : Change) → step_of m ≡ Appends n change → length (changed change (held_of m)) ≡ n
+held_length (InPlace p) sound n change is = absurd cc
+held_length (Rewrite r) sound n change is = Copies.rewriting_size r n change sound is
 
 -- ---- before the first call
 
@@ -70,7 +70,7 @@ module _ (c : Core) (sound : IsSound c) (some : left c.machine ≡ [] → ⊥) (
   is : step_at p k ≡ s
   is = next_step p (left c.machine) more.0 s sound.rest more.1
 
-  size : (n : ℕ) → s ≡ Appends n → length held ≡ n
+  size : (n : ℕ) (change : Change) → s ≡ Appends n change → length (changed change held) ≡ n
   size = held_length c.machine sound.machine
 
   pub core_permits : Permits s held old

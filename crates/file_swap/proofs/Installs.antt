@@ -1,10 +1,10 @@
 -- Before the install call the old file stands, and from then on it doesn't.
-use Rattle.std.proofs.Common.{◌≡◌, ℕ, zero, suc, ◌+◌, ◌-◌, ◌≤◌, ◌<◌, min, List, [], ◌∷◌, ◌++◌, length, take, map, Some, None, refl, sym, ◌∙◌, ap, subst, arith, length-append, append_assoc}
+use Rattle.std.proofs.Common.{◌≡◌, ℕ, zero, suc, ◌+◌, ◌-◌, ◌*◌, ◌≤◌, ◌<◌, min, List, [], ◌∷◌, ◌++◌, length, take, map, Some, None, refl, sym, ◌∙◌, ap, subst, arith, length-append, append_assoc}
 use Rattle.std.specs.Prelude.{IsTrue}
 use Rattle.std.specs.List.{flat_map}
 use Rattle.part_tree.specs.declared.plan.Patch.{Patch}
 use Rattle.part_tree.specs.declared.plan.Segment.{Segment}
-use Rattle.part_tree.specs.declared.plan.Segment.TheVariants.{Copy, Literal}
+use Rattle.part_tree.specs.declared.plan.Segment.TheVariants.{Copy, Literal, Table}
 use Rattle.part_tree.specs.declared.plan.Plan.{Plan}
 use Rattle.part_tree.specs.declared.plan.Plan.TheVariants.{InPlace, Rewrite}
 use Rattle.me_disk.specs.Disk.{Image, Disk}
@@ -13,8 +13,12 @@ use Rattle.me_disk.specs.Calls.Call.{BeginWork, AppendWork, SyncWork, DropWork, 
 use Rattle.me_disk.proofs.Runs.{same_slots}
 use Rattle.edit_journal.specs.Journal.{spelled}
 use Rattle.edit_journal.specs.Settled.{Settles, StandsAlone}
-use Rattle.file_swap.specs.Steps.{Step, Range, block, blocks, cut_in, part, appends, writes, segment_steps, cut_steps, end_steps, steps, calls, install_call, bytes_by, bytes_written}
+use Rattle.file_swap.specs.Steps.{Step, Range, block, blocks, page, pages, cut_in, part, appends, writes, segment_steps, cut_steps, end_steps, steps, calls, install_call, bytes_by, bytes_written}
+use Rattle.file_swap.specs.Steps.Change.{Stays, Relocates}
 use Rattle.file_swap.specs.Steps.Step.{Makes, Reads, Appends}
+use Rattle.part_tree.specs.declared.table.TableForm.{TableForm}
+use Rattle.part_tree.specs.Moves.{Move}
+use Rattle.part_tree.specs.Tables.{width, new_width}
 use Rattle.part_tree.specs.Plans.{applied, CanRun, Belongs}
 use Rattle.file_swap.specs.Midway.Region.{Old}
 use Rattle.file_swap.specs.Midway.{Region, region_after, region_in, regions, region_at, Phase, IsIn}
@@ -32,21 +36,27 @@ quiet-append : (xs ys : List Step) → AllQuiet xs → AllQuiet ys → AllQuiet 
 quiet-append [] ys h h' = h'
 quiet-append (x ∷ xs) ys h h' = (h.0, quiet-append xs ys h.1 h')
 
-quiet_blocks : (b : List ℕ) (k at len : ℕ) → AllQuiet (map (λ (r : Range). Makes (AppendWork (part b r))) (cut_in k at len))
+quiet_blocks : (b : List ℕ) (k at len : ℕ) → AllQuiet (map (λ (r : Range). Makes (AppendWork (part b r))) (cut_in block k at len))
 quiet_blocks b zero at len = tt
 quiet_blocks b (suc k) at len = (λ r. refl, quiet_blocks b k (at + min block len) (len - min block len))
 
-quiet_copies : (k at len : ℕ) → AllQuiet (flat_map (λ (r : Range). Reads r.at r.len ∷ Appends r.len ∷ []) (cut_in k at len))
+quiet_copies : (k at len : ℕ) → AllQuiet (flat_map (λ (r : Range). Reads r.at r.len ∷ Appends r.len Stays ∷ []) (cut_in block k at len))
 quiet_copies zero at len = tt
 quiet_copies (suc k) at len = (λ r. refl, (λ r. refl, quiet_copies k (at + min block len) (len - min block len)))
 
-quiet_segment : (s : Segment) → AllQuiet (segment_steps s)
-quiet_segment (Copy s) = quiet_copies (blocks s.len) s.at s.len
-quiet_segment (Literal b) = quiet_blocks b (blocks (length b - 0)) 0 (length b - 0)
+quiet_pages : (moves : List Move) (form : TableForm) (from k first n : ℕ)
+    → AllQuiet (flat_map (λ (r : Range). Reads (from + width form * r.at) (width form * r.len) ∷ Appends (new_width form * r.len) (Relocates moves form r.len) ∷ []) (cut_in page k first n))
+quiet_pages moves form from zero first n = tt
+quiet_pages moves form from (suc k) first n = (λ r. refl, (λ r. refl, quiet_pages moves form from k (first + min page n) (n - min page n)))
 
-quiet_segments : (ss : List Segment) → AllQuiet (flat_map segment_steps ss)
-quiet_segments [] = tt
-quiet_segments (s ∷ ss) = quiet-append (segment_steps s) (flat_map segment_steps ss) (quiet_segment s) (quiet_segments ss)
+quiet_segment : (moves : List Move) (s : Segment) → AllQuiet (segment_steps moves s)
+quiet_segment moves (Copy s) = quiet_copies (blocks s.len) s.at s.len
+quiet_segment moves (Literal b) = quiet_blocks b (blocks (length b - 0)) 0 (length b - 0)
+quiet_segment moves (Table form from rows) = quiet_pages moves form from (pages rows) 0 rows
+
+quiet_segments : (moves : List Move) (ss : List Segment) → AllQuiet (flat_map (segment_steps moves) ss)
+quiet_segments moves [] = tt
+quiet_segments moves (s ∷ ss) = quiet-append (segment_steps moves s) (flat_map (segment_steps moves) ss) (quiet_segment moves s) (quiet_segments moves ss)
 
 -- ---- before the install call, and from then on
 
@@ -70,7 +80,7 @@ call_later DropJournal r late is = absurd cc
 step_later : (s : Step) (r : Region) → (r ≡ Old → ⊥) → region_in s r ≡ Old → ⊥
 step_later (Makes c) r late is = call_later c r late is
 step_later (Reads at n) r late is = late is
-step_later (Appends n) r late is = late is
+step_later (Appends n change) r late is = late is
 
 later : (ss : List Step) (r : Region) → (r ≡ Old → ⊥) → regions ss r ≡ Old → ⊥
 later [] r late is = late is
@@ -82,7 +92,7 @@ quiet_new (suc k) [] ys s quiet late low is = later (take k ys) (region_in s Old
 quiet_new (suc k) (x ∷ xs) ys s quiet late low is =
     quiet_new k xs ys s quiet.1 late (omega arith) (sym (ap (λ (r : Region). regions (take k (xs ++ s ∷ ys)) r) (quiet.0 Old)) ∙ is)
 
-blocks_length : (f : Range → Step) (k at len : ℕ) → length (map f (cut_in k at len)) ≡ k
+blocks_length : (f : Range → Step) (k at len : ℕ) → length (map f (cut_in block k at len)) ≡ k
 blocks_length f zero at len = refl
 blocks_length f (suc k) at len = let h = blocks_length f k (at + min block len) (len - min block len) in omega arith
 
@@ -112,14 +122,14 @@ split (InPlace old new ps) =
       late = λ is. cc;
       size = omega (arith, size, length-append a (Makes SyncWork ∷ []));
     }
-split (Rewrite new ss) =
-    let a = flat_map segment_steps ss in
+split (Rewrite new moves ss) =
+    let a = flat_map (segment_steps moves) ss in
     record {
       front = Makes BeginWork ∷ (a ++ Makes SyncWork ∷ []);
       install = Makes InstallMain;
       behind = [];
       is = ap (λ (l : List Step). Makes BeginWork ∷ l) (sym (append_assoc a (Makes SyncWork ∷ []) (Makes InstallMain ∷ [])));
-      quiet = (λ r. refl, quiet-append a (Makes SyncWork ∷ []) (quiet_segments ss) (λ r. refl, tt));
+      quiet = (λ r. refl, quiet-append a (Makes SyncWork ∷ []) (quiet_segments moves ss) (λ r. refl, tt));
       late = λ is. cc;
       size = omega (arith, length-append a (Makes SyncWork ∷ []), length-append a end_steps);
     }

@@ -1,15 +1,15 @@
 -- One call takes a depot from moment to moment.
-use Rattle.std.proofs.Common.{◌≡◌, ◌⊎◌, inl, inr, ⊎_elim, ℕ, ◌+◌, ◌≤◌, ◌<◌, ◌^◌, min, List, length, Some, None, sym, ◌∙◌, ap, subst}
+use Rattle.std.proofs.Common.{◌≡◌, ◌⊎◌, inl, inr, ℕ, ◌+◌, ◌≤◌, ◌<◌, ◌^◌, min, List, length, Some, None, sym, ◌∙◌, ap, subst}
 use Rattle.std.specs.Prelude.{IsTrue, IsSome, Result, Ok}
 use Rattle.std.specs.declared.option.Option.{Option}
 use Rattle.me_disk.specs.declared.depot.DepotFault.{DepotFault}
 use Rattle.part_tree.specs.declared.plan.Plan.{Plan}
 use Rattle.part_tree.specs.declared.plan.Plan.TheVariants.{InPlace, Rewrite}
 use Rattle.me_disk.specs.Disk.{Image, Slots, Disk, IsLawful, Leaves, plain, bytes_of}
-use Rattle.me_disk.specs.Calls.{Call, state_at_ok, OnBoth, TornBytes, CutBytes, MainBecomes, JournalBecomes, Allows}
+use Rattle.me_disk.specs.Calls.{Call, Crash, state_at_ok, OnBoth, TornBytes, CutBytes, MainBecomes, JournalBecomes, Allows}
 use Rattle.me_disk.specs.Calls.Call.{BeginWork, AppendWork, SyncWork, DropWork, InstallMain, InstallJournal, WriteMain, SetMainLen, SyncMain, DropJournal}
 use Rattle.me_disk.specs.Steps.{Does, ReadsOnly}
-use Rattle.me_disk.proofs.Runs.{AtOk-either, Leaves-does, slots_ok, same_image, same_slots}
+use Rattle.me_disk.proofs.Runs.{Leaves-does, slots_ok, same_image, same_slots}
 use Rattle.edit_journal.proofs.Laid.{Torn-write, Torn-cut}
 use Rattle.part_tree.specs.Plans.{applied}
 use Rattle.file_swap.specs.Midway.Region.{Old, Laying, Laid}
@@ -23,13 +23,13 @@ module _ (p : Plan) (o : List ℕ) where
   write_torn (InPlace old new ps) at n (Some m) (Some m') inside step torn = Torn-write ps (min old new) at n o m m' inside torn step
   write_torn (InPlace old new ps) at n (Some m) None inside step torn = absurd step
   write_torn (InPlace old new ps) at n None m' inside step torn = absurd torn
-  write_torn (Rewrite new segments) at n m m' inside step torn = absurd torn
+  write_torn (Rewrite new moves segments) at n m m' inside step torn = absurd torn
 
   cut_torn : (q : Plan) (n : ℕ) (m m' : Option (List ℕ)) → StaysLong q n → OnBoth (CutBytes n) m m' → IsTorn q o m → IsTorn q o m'
   cut_torn (InPlace old new ps) n (Some m) (Some m') low step torn = Torn-cut ps (min old new) n o m m' low torn step
   cut_torn (InPlace old new ps) n (Some m) None low step torn = absurd step
   cut_torn (InPlace old new ps) n None m' low step torn = absurd torn
-  cut_torn (Rewrite new segments) n m m' low step torn = absurd torn
+  cut_torn (Rewrite new moves segments) n m m' low step torn = absurd torn
 
   -- ---- the images of a call
 
@@ -77,32 +77,19 @@ module _ (p : Plan) (o : List ℕ) where
     drop_journal i j h is step =
         let was = seen Laid is j h in same_image i (plain (Some (applied p o))) (step.main ∙ was.main) step.journal
 
-    -- whatever it answers
-    pub images_any : (c : Call) (r : Result Unit DepotFault) → FitsCall p o c m → Does c old new r → (i : Image) → new.images i
+    -- an image from before, after the whole call
+    after_call : (c : Call) → FitsCall p o c m → (i j : Image) → old.images j → Crash c old.slots (Ok tt) j i
         → IsIn m.region p o i ⊎ IsIn (region_after c m.region) p o i
-    images_any BeginWork r fits does i h = let from = does.crash.images i h in inl (kept i from.0 from.2 from.1)
-    images_any (AppendWork b) r fits does i h = let from = does.crash.images i h in inl (kept i from.0 from.2 from.1)
-    images_any SyncWork r fits does i h = let from = does.crash.images i h in inl (kept i from.0 from.2 from.1)
-    images_any DropWork r fits does i h = let from = does.crash.images i h in inl (kept i from.0 from.2 from.1)
-    images_any InstallMain r fits does i h =
-        let from = does.crash.images i h in
-        ⊎_elim (λ same. inl (kept i from.0 same from.1)) (λ step. inr (install_main i from.0 from.1 fits step))
-        (AtOk-either r (MainBecomes (λ _ n. n ≡ old.slots.work)) from.0 i from.2)
-    images_any InstallJournal r fits does i h =
-        let from = does.crash.images i h in
-        ⊎_elim (λ same. inl (kept i from.0 same from.1)) (λ step. inr (install_journal i from.0 from.1 fits step))
-        (AtOk-either r (JournalBecomes old.slots.work) from.0 i from.2)
-    images_any (WriteMain place b) r fits does i h =
-        let from = does.crash.images i h in
-        let f = fits in inl (write_main place (length b) i from.0 from.1 f.0 f.3 from.2)
-    images_any (SetMainLen n) r fits does i h =
-        let from = does.crash.images i h in
-        let f = fits in inl (set_len n i from.0 from.1 f.0 f.3 from.2)
-    images_any SyncMain r fits does i h = let from = does.crash.images i h in inl (kept i from.0 from.2 from.1)
-    images_any DropJournal r fits does i h =
-        let from = does.crash.images i h in
-        ⊎_elim (λ same. inl (kept i from.0 same from.1)) (λ step. inr (drop_journal i from.0 from.1 fits step))
-        (AtOk-either r (JournalBecomes None) from.0 i from.2)
+    after_call BeginWork fits i j h step = inl (kept i j step h)
+    after_call (AppendWork b) fits i j h step = inl (kept i j step h)
+    after_call SyncWork fits i j h step = inl (kept i j step h)
+    after_call DropWork fits i j h step = inl (kept i j step h)
+    after_call InstallMain fits i j h step = inr (install_main i j h fits step)
+    after_call InstallJournal fits i j h step = inr (install_journal i j h fits step)
+    after_call (WriteMain place b) fits i j h step = let f = fits in inl (write_main place (length b) i j h f.0 f.3 step)
+    after_call (SetMainLen n) fits i j h step = let f = fits in inl (set_len n i j h f.0 f.3 step)
+    after_call SyncMain fits i j h step = inl (kept i j step h)
+    after_call DropJournal fits i j h step = inr (drop_journal i j h fits step)
 
     -- at Ok
     images_ok : (c : Call) (x : Unit {0}) → IsLawful new → FitsCall p o c m → Does c old new (Ok x) → (i : Image) → new.images i → IsIn (region_after c m.region) p o i
@@ -152,7 +139,7 @@ module _ (p : Plan) (o : List ℕ) where
 
     pub call_leaves : (c : Call) (r : Result Unit DepotFault) → FitsCall p o c m → Does c old new r
         → Leaves (λ i. IsIn m.region p o i ⊎ IsIn (region_after c m.region) p o i) old new
-    call_leaves c r fits does = Leaves-does (λ i. IsIn m.region p o i ⊎ IsIn (region_after c m.region) p o i) c old new r does (λ i h. images_any c r fits does i h)
+    call_leaves c r fits does = Leaves-does (λ i. IsIn m.region p o i ⊎ IsIn (region_after c m.region) p o i) c old new r does (λ i j h step. after_call c fits i j h step)
 
     -- a read keeps the moment
     pub at_read : ReadsOnly old new → (held : List ℕ) → At p o (record { slots = m.slots; state = m.state; region = m.region; held = held }) new

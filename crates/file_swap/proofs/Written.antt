@@ -1,18 +1,23 @@
 -- How many bytes a plan writes.
-use Rattle.std.proofs.Common.{◌≡◌, ℕ, zero, suc, ◌+◌, ◌-◌, ◌≤◌, min, Bool, true, false, List, [], ◌∷◌, ◌++◌, length, drop, map, refl, ◌∙◌, ap, arith, length-take, length-drop}
+use Rattle.std.proofs.Common.{◌≡◌, ℕ, zero, suc, ◌+◌, ◌-◌, ◌*◌, ◌≤◌, min, Bool, true, false, List, [], ◌∷◌, ◌++◌, length, drop, map, refl, sym, ◌∙◌, ap, arith, length-take, length-drop}
 use Rattle.std.specs.Prelude.{nat_lt, if◌then◌else◌}
 use Rattle.std.specs.List.{flat_map}
 use Rattle.std.proofs.lemmas.List.{take_all}
 use Rattle.part_tree.specs.declared.plan.Patch.{Patch}
 use Rattle.part_tree.specs.declared.plan.Segment.{Segment}
-use Rattle.part_tree.specs.declared.plan.Segment.TheVariants.{Copy, Literal}
+use Rattle.part_tree.specs.declared.plan.Segment.TheVariants.{Copy, Literal, Table}
 use Rattle.part_tree.specs.declared.plan.Plan.{Plan}
 use Rattle.part_tree.specs.declared.plan.Plan.TheVariants.{InPlace, Rewrite}
 use Rattle.me_disk.specs.Calls.Call.{AppendWork, WriteMain, SetMainLen}
 use Rattle.edit_journal.specs.Journal.{spelled}
-use Rattle.edit_journal.proofs.Laws.{length-spelled_patches}
-use Rattle.file_swap.specs.Steps.{Step, Range, block, blocks, cut_in, part, appends, writes, segment_steps, after_writes, cut_steps, install_steps, end_steps, steps, calls, step_bytes, bytes_in, bytes_by, bytes_written}
+use Rattle.edit_journal.proofs.Laws.{length-spelled}
+use Rattle.file_swap.specs.Steps.{Step, Range, block, blocks, page, pages, cut_in, part, appends, writes, segment_steps, after_writes, cut_steps, install_steps, end_steps, steps, calls, step_bytes, bytes_in, bytes_by, bytes_written}
+use Rattle.file_swap.specs.Steps.Change.{Stays, Relocates}
 use Rattle.file_swap.specs.Steps.Step.{Makes, Reads, Appends}
+use Rattle.std.proofs.Math.Nat.{mul-add, mul-zero}
+use Rattle.part_tree.specs.declared.table.TableForm.{TableForm}
+use Rattle.part_tree.specs.Moves.{Move}
+use Rattle.part_tree.specs.Tables.{width, new_width}
 use Rattle.part_tree.specs.Patches.{all_bytes}
 use Rattle.part_tree.specs.Plans.{segment_len, total_len, CanRun}
 use Rattle.file_swap.proofs.Rests.{bytes_most}
@@ -22,7 +27,7 @@ bytes_in-append [] ys = omega arith
 bytes_in-append (x ∷ xs) ys = let h = bytes_in-append xs ys in omega arith
 
 -- blocks that write the bytes of their ranges
-blocks_bytes : (f : Range → Step) (k at len : ℕ) → ((r : Range) → at ≤ r.at → r.at + r.len ≤ at + len → step_bytes (f r) ≡ r.len) → blocks len ≤ k → bytes_in (map f (cut_in k at len)) ≡ len
+blocks_bytes : (f : Range → Step) (k at len : ℕ) → ((r : Range) → at ≤ r.at → r.at + r.len ≤ at + len → step_bytes (f r) ≡ r.len) → blocks len ≤ k → bytes_in (map f (cut_in block k at len)) ≡ len
 blocks_bytes f zero at len each all = omega arith
 blocks_bytes f (suc k) at len each all =
     let n = min block len in
@@ -41,21 +46,34 @@ writes_bytes : (p : Patch) → bytes_in (writes p 0) ≡ length p.bytes
 writes_bytes p =
     let h = blocks_bytes (λ (r : Range). Makes (WriteMain (p.at + r.at) (part p.bytes r))) (blocks (length p.bytes - 0)) 0 (length p.bytes - 0) (λ r low high. part_length p.bytes r (omega (arith, high))) (omega arith) in omega arith
 
-copies_bytes : (k at len : ℕ) → blocks len ≤ k → bytes_in (flat_map (λ (r : Range). Reads r.at r.len ∷ Appends r.len ∷ []) (cut_in k at len)) ≡ len
+copies_bytes : (k at len : ℕ) → blocks len ≤ k → bytes_in (flat_map (λ (r : Range). Reads r.at r.len ∷ Appends r.len Stays ∷ []) (cut_in block k at len)) ≡ len
 copies_bytes zero at len all = omega arith
 copies_bytes (suc k) at len all =
     let n = min block len in
     let rest = copies_bytes k (at + n) (len - n) (omega arith) in omega arith
 
-segment_written : (s : Segment) → bytes_in (segment_steps s) ≡ segment_len s
-segment_written (Copy s) = copies_bytes (blocks s.len) s.at s.len (omega arith)
-segment_written (Literal b) = appends_bytes b
+tables_bytes : (moves : List Move) (form : TableForm) (from k first n : ℕ) → pages n ≤ k
+    → bytes_in (flat_map (λ (r : Range). Reads (from + width form * r.at) (width form * r.len) ∷ Appends (new_width form * r.len) (Relocates moves form r.len) ∷ []) (cut_in page k first n)) ≡ new_width form * n
+tables_bytes moves form from zero first n all =
+    let e : 0 ≡ n = omega arith in
+    sym (mul-zero (new_width form)) ∙ ap (λ (x : ℕ). new_width form * x) e
+tables_bytes moves form from (suc k) first n all =
+    let m = min page n in
+    let whole : m + (n - m) ≡ n = omega arith in
+    let rest = tables_bytes moves form from k (first + m) (n - m) (omega arith) in
+    let both = mul-add (new_width form) m (n - m) ∙ refl in
+    omega (arith, rest, both, ap (λ (x : ℕ). new_width form * x) whole)
 
-segments_written : (ss : List Segment) → bytes_in (flat_map segment_steps ss) ≡ total_len ss
-segments_written [] = refl
-segments_written (s ∷ ss) =
-    let here = segment_written s in
-    let rest = segments_written ss in omega (arith, bytes_in-append (segment_steps s) (flat_map segment_steps ss))
+segment_written : (moves : List Move) (s : Segment) → bytes_in (segment_steps moves s) ≡ segment_len s
+segment_written moves (Copy s) = copies_bytes (blocks s.len) s.at s.len (omega arith)
+segment_written moves (Literal b) = appends_bytes b
+segment_written moves (Table form from rows) = tables_bytes moves form from (pages rows) 0 rows (omega arith)
+
+segments_written : (moves : List Move) (ss : List Segment) → bytes_in (flat_map (segment_steps moves) ss) ≡ total_len ss
+segments_written moves [] = refl
+segments_written moves (s ∷ ss) =
+    let here = segment_written moves s in
+    let rest = segments_written moves ss in omega (arith, bytes_in-append (segment_steps moves s) (flat_map (segment_steps moves) ss))
 
 patches_written : (ps : List Patch) → bytes_in (flat_map (λ (p : Patch). writes p 0) ps) ≡ all_bytes ps
 patches_written [] = refl
@@ -72,10 +90,10 @@ bytes_all (InPlace old new ps) can =
     let j = spelled old new ps in
     let laid = patches_written ps in
     let cut = cut_bytes new (nat_lt new old) in
-    omega (arith, appends_bytes j, length-spelled_patches ps, bytes_in-append (appends j 0) (install_steps old new ps), bytes_in-append (flat_map (λ (p : Patch). writes p 0) ps) (cut_steps old new))
-bytes_all (Rewrite new ss) can =
+    omega (arith, appends_bytes j, length-spelled old new ps, bytes_in-append (appends j 0) (install_steps old new ps), bytes_in-append (flat_map (λ (p : Patch). writes p 0) ps) (cut_steps old new))
+bytes_all (Rewrite new moves ss) can =
     let total = can.total in
-    omega (arith, segments_written ss, bytes_in-append (flat_map segment_steps ss) end_steps)
+    omega (arith, segments_written moves ss, bytes_in-append (flat_map (segment_steps moves) ss) end_steps)
 
 -- ---- a whole run
 

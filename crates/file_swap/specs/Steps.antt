@@ -3,19 +3,33 @@ use Rattle.std.specs.Prelude.{ℕ, zero, suc, ◌+◌, ◌-◌, ◌*◌, ◌/◌
 use Rattle.std.specs.List.{flat_map}
 use Rattle.part_tree.specs.declared.plan.Patch.{Patch}
 use Rattle.part_tree.specs.declared.plan.Segment.{Segment}
-use Rattle.part_tree.specs.declared.plan.Segment.TheVariants.{Copy, Literal}
+use Rattle.part_tree.specs.declared.plan.Segment.TheVariants.{Copy, Literal, Table}
 use Rattle.part_tree.specs.declared.plan.Plan.{Plan}
 use Rattle.part_tree.specs.declared.plan.Plan.TheVariants.{InPlace, Rewrite}
 use Rattle.me_disk.specs.Calls.{Call, piece}
 use Rattle.me_disk.specs.Calls.Call.{BeginWork, AppendWork, SyncWork, InstallMain, InstallJournal, WriteMain, SetMainLen, SyncMain, DropJournal}
-use Rattle.edit_journal.specs.Journal.{spelled}
+use Rattle.edit_journal.specs.Journal.{spelled, bytes_in_place}
+use Rattle.part_tree.specs.declared.table.TableForm.{TableForm}
+use Rattle.part_tree.specs.Moves.{Move}
 use Rattle.part_tree.specs.Patches.{all_bytes}
+use Rattle.part_tree.specs.Tables.{width, new_width, relocated}
 
--- a call that changes the depot, one that reads a range of the file, or one that appends the n bytes that were read last
+-- what becomes of the bytes that were read: they stay, or they are so many rows of a table, whose places move
+pub data Change : Type 0 where
+  Stays : Change
+  Relocates : List Move → TableForm → ℕ → Change
+
+-- the bytes after a change
+abbrev pub changed : Change → List ℕ → List ℕ
+changed Stays b = b
+changed (Relocates moves form rows) b = relocated moves form rows b
+
+-- a call that changes the depot, one that reads a range of the file, or one that appends what was read last, changed: so many
+-- bytes
 pub data Step : Type 0 where
   Makes : Call → Step
   Reads : ℕ → ℕ → Step
-  Appends : ℕ → Step
+  Appends : ℕ → Change → Step
 
 -- ---- blocks
 
@@ -32,14 +46,26 @@ pub record Range : Type 0 where
   pub at : ℕ
   pub len : ℕ
 
--- so many blocks of the range, the last one perhaps shorter
-abbrev pub cut_in : ℕ → ℕ → ℕ → List Range
-cut_in zero at len = []
-cut_in (suc k) at len = record { at = at; len = min block len } ∷ cut_in k (at + min block len) (len - min block len)
+-- so many pieces of this size of the range, the last one perhaps shorter
+abbrev pub cut_in : ℕ → ℕ → ℕ → ℕ → List Range
+cut_in size zero at len = []
+cut_in size (suc k) at len = record { at = at; len = min size len } ∷ cut_in size k (at + min size len) (len - min size len)
 
 -- the range in blocks
 abbrev pub ranges : ℕ → ℕ → List Range
-ranges at len = cut_in (blocks len) at len
+ranges at len = cut_in block (blocks len) at len
+
+-- the most rows of a table that one call reads
+abbrev pub page : ℕ
+page = 4096
+
+-- the least number of pages that hold so many rows
+abbrev pub pages : ℕ → ℕ
+pages n = (n + 4095) / 4096
+
+-- so many rows from one on, in pages
+abbrev pub page_ranges : ℕ → ℕ → List Range
+page_ranges first rows = cut_in page (pages rows) first rows
 
 -- the bytes of a range
 abbrev pub part : List ℕ → Range → List ℕ
@@ -57,12 +83,18 @@ writes p from = map (λ r. Makes (WriteMain (p.at + r.at) (part p.bytes r))) (ra
 
 -- a range of the file, read and appended block by block
 abbrev pub copies : ℕ → ℕ → List Step
-copies at len = flat_map (λ r. Reads r.at r.len ∷ Appends r.len ∷ []) (ranges at len)
+copies at len = flat_map (λ r. Reads r.at r.len ∷ Appends r.len Stays ∷ []) (ranges at len)
+
+-- the rows of a table that begins at a place of the file, from one row on, read, moved and appended page by page
+abbrev pub relocates : List Move → TableForm → ℕ → ℕ → ℕ → List Step
+relocates moves form from first rows =
+    flat_map (λ r. Reads (from + width form * r.at) (width form * r.len) ∷ Appends (new_width form * r.len) (Relocates moves form r.len) ∷ []) (page_ranges first rows)
 
 -- the steps of a segment
-abbrev pub segment_steps : Segment → List Step
-segment_steps (Copy s) = copies s.at s.len
-segment_steps (Literal b) = appends b 0
+abbrev pub segment_steps : List Move → Segment → List Step
+segment_steps moves (Copy s) = copies s.at s.len
+segment_steps moves (Literal b) = appends b 0
+segment_steps moves (Table form from rows) = relocates moves form from 0 rows
 
 -- ---- the lists
 
@@ -83,10 +115,11 @@ abbrev pub end_steps : List Step
 end_steps = Makes SyncWork ∷ Makes InstallMain ∷ []
 
 -- In place: the journal is made and installed, the patches are written, what lies behind the new length is cut off, the file
--- is synced, and the journal goes. A rewrite: the segments are appended to `Work`, which is synced and installed.
+-- is synced, and the journal goes. A rewrite: the segments are appended to `Work`, tables with their places moved, and
+-- `Work` is synced and installed.
 abbrev pub steps : Plan → List Step
 steps (InPlace old new ps) = Makes BeginWork ∷ (appends (spelled old new ps) 0 ++ install_steps old new ps)
-steps (Rewrite new segments) = Makes BeginWork ∷ (flat_map segment_steps segments ++ end_steps)
+steps (Rewrite new moves segments) = Makes BeginWork ∷ (flat_map (segment_steps moves) segments ++ end_steps)
 
 -- how many calls a plan has
 unfoldable pub calls : Plan → ℕ
@@ -95,7 +128,7 @@ calls p = length (steps p)
 -- how many calls it has up to the one that installs the journal or the new file, that one counted
 abbrev pub install_call : Plan → ℕ
 install_call (InPlace old new ps) = 3 + blocks (length (spelled old new ps))
-install_call (Rewrite new segments) = length (steps (Rewrite new segments))
+install_call (Rewrite new moves segments) = length (steps (Rewrite new moves segments))
 
 -- the step after the first k
 abbrev pub step_at : Plan → ℕ → Step
@@ -107,7 +140,7 @@ step_at p k = get_or (steps p) k (Makes DropJournal)
 abbrev pub step_bytes : Step → ℕ
 step_bytes (Makes c) = piece c
 step_bytes (Reads at n) = 0
-step_bytes (Appends n) = n
+step_bytes (Appends n change) = n
 
 -- how many bytes some steps write together
 abbrev pub bytes_in : List Step → ℕ
@@ -120,5 +153,5 @@ bytes_by p k = bytes_in (take k (steps p))
 
 -- what all of them write: the journal and the patches, or the new file
 abbrev pub bytes_written : Plan → ℕ
-bytes_written (InPlace old new ps) = 24 + 12 * length ps + 2 * all_bytes ps
-bytes_written (Rewrite new segments) = new
+bytes_written (InPlace old new ps) = bytes_in_place ps
+bytes_written (Rewrite new moves segments) = new

@@ -57,9 +57,11 @@ impl Machine {
                 new_len,
                 patches,
             } => Ok(Machine::InPlace(Patching::new(alloc, old_len, new_len, patches)?)),
-            Plan::Rewrite { new_len, segments } => {
-                Ok(Machine::Rewrite(Rewriting::new(alloc, new_len, segments)?))
-            }
+            Plan::Rewrite {
+                new_len,
+                moves,
+                segments,
+            } => Ok(Machine::Rewrite(Rewriting::new(alloc, new_len, moves, segments)?)),
         }
     }
 

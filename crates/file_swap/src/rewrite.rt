@@ -6,36 +6,42 @@ ghost use Rattle.file_swap.specs.Parts.{span_of, literal_of};
 ghost use Rattle.file_swap.specs.Fits.{Permits, StepDoes, HoldsAfter};
 
 use crate::block::{BLOCK, append_block, append_read, read_block};
+use crate::table_rows::{PAGE, TableRows, append_rows, table_in};
 use me_disk::{Depot, DepotFault};
-use part_tree::{NoMemory, Segment, Segments, Span};
+use part_tree::{Moves, NoMemory, Segment, Segments, Span};
 use std::alloc::Global;
 
 /// The call that comes next. A block of a copied range is read and then appended, from a place in the range on; a block of a
-/// segment's own bytes is put, from a place in them on. Segments go by their numbers.
+/// segment's own bytes is put, from a place in them on; a page of a table's rows is read and then appended with its places
+/// moved, from a row on. Segments go by their numbers.
 #[derive(Clone, Copy)]
 pub(crate) enum Stage {
     Start,
     Read(usize, u64),
     Append(usize, u64),
     Put(usize, usize),
+    ReadRows(usize, u64),
+    AppendRows(usize, u64),
     Seal,
     Install,
     Ended,
 }
 
-/// What the new file is made of.
+/// What the new file is made of, and where the places of the old one go.
 #[derive(Drop)]
 pub(crate) struct Parts {
     pub(crate) new_len: u64,
+    pub(crate) moves: Moves,
     pub(crate) segments: Segments,
 }
 
-/// The parts, how far the calls have come, and a buffer of one block.
+/// The parts, how far the calls have come, a buffer of one block, and one for the page that is moved.
 #[derive(Drop)]
 pub(crate) struct Rewriting {
     pub(crate) parts: Parts,
     pub(crate) stage: Stage,
     pub(crate) buffer: Vec<u8>,
+    pub(crate) moved: Vec<u8>,
 }
 
 // The range that a segment copies, and one of no bytes where it copies none.
@@ -44,7 +50,7 @@ fn span_in(segment: &Segment) -> Span
 {
     match segment {
         Segment::Copy(span) => *span,
-        Segment::Literal(_) => Span { at: 0, len: 0 },
+        _ => Span { at: 0, len: 0 },
     }
 }
 
@@ -53,14 +59,14 @@ fn literal_in(segment: &Segment) -> &[u8]
     ensures { result.now ≡ literal_of segment.now }
 {
     match segment {
-        Segment::Copy(_) => &[],
         Segment::Literal(bytes) => bytes.as_slice(),
+        _ => &[],
     }
 }
 
 impl Parts {
     ghost use Rattle.file_swap.specs.declared.rewrite.Stage.{Stage};
-    ghost use Rattle.file_swap.specs.Parts.{segment_at, span_at, literal_at, copy_len, segments_from, step_of, left, IsStage, HoldsNothing, IsNextStage};
+    ghost use Rattle.file_swap.specs.Parts.{segment_at, span_at, literal_at, table_at, copy_len, page_len, segments_from, step_of, left, IsStage, HoldsNothing, IsNextStage};
 
     // The range that the segment of this number copies.
     fn span(&self, i: usize) -> Span
@@ -87,6 +93,23 @@ impl Parts {
         (BLOCK as u64).min(self.span(i).len - from) as usize
     }
 
+    // The table that the segment of this number moves.
+    fn table(&self, i: usize) -> TableRows
+        requires { i < length self.now.segments }
+        ensures { result ≡ table_at self.now i }
+    {
+        table_in(&self.segments.as_slice()[i])
+    }
+
+    // How many rows the page has that begins with a row of a table.
+    fn page_len(&self, i: usize, first: u64) -> u64
+        requires { (i < length self.now.segments) × (first < (table_at self.now i).rows) }
+        ensures is { result ≡ page_len self.now i first }
+        ensures fits { first + result < 2 ^ 64 }
+    {
+        PAGE.min(self.table(i).rows - first)
+    }
+
     // The first stage of a segment. One of no bytes has none.
     fn first(&self, i: usize) -> Option<Stage>
         requires { i < length self.now.segments }
@@ -98,6 +121,7 @@ impl Parts {
         match &self.segments.as_slice()[i] {
             Segment::Copy(span) if span.len > 0 => Some(Stage::Read(i, 0)),
             Segment::Literal(bytes) if bytes.as_slice().len() > 0 => Some(Stage::Put(i, 0)),
+            Segment::Table { rows, .. } if *rows > 0 => Some(Stage::ReadRows(i, 0)),
             _ => None,
         }
     }
@@ -147,6 +171,21 @@ impl Parts {
         }
     }
 
+    // The stage in a table from a row on, or before the segment behind it.
+    fn rows_more(&self, i: usize, first: u64) -> Stage
+        requires { i < length self.now.segments }
+        ensures left { left self.now result ≡ left self.now (Stage.ReadRows i first) }
+        ensures stage { IsStage self.now result }
+        ensures holds { HoldsNothing result }
+    {
+        let segments = self.segments.as_slice();
+        if first < table_in(&segments[i]).rows {
+            Stage::ReadRows(i, first)
+        } else {
+            self.segment(i + 1)
+        }
+    }
+
     // The stage after this one.
     fn next(&self, stage: Stage) -> Stage
         requires stage { IsStage self.now stage }
@@ -162,6 +201,8 @@ impl Parts {
             Stage::Put(i, from) => {
                 self.put_more(i, from + BLOCK.min(self.literal(i).len() - from))
             }
+            Stage::ReadRows(i, first) => Stage::AppendRows(i, first),
+            Stage::AppendRows(i, first) => self.rows_more(i, first + self.page_len(i, first)),
             Stage::Seal => Stage::Install,
             Stage::Install => Stage::Ended,
             Stage::Ended => Stage::Ended,
@@ -173,22 +214,29 @@ impl Rewriting {
     ghost use Rattle.file_swap.specs.declared.rewrite.Stage.{Stage};
     ghost use Rattle.file_swap.specs.Parts.{step_of, left, held_of, HasRead, IsRewriting};
 
-    /// Before the first call. It takes the buffer.
+    /// Before the first call. It takes the buffers.
     pub(crate) fn new(
         alloc: Global,
         new_len: u64,
+        moves: Moves,
         segments: Segments,
     ) -> Result<Rewriting, NoMemory>
         requires { AddsUp new_len segments }
-        ensures parts { IfOk result (λ r. (r.parts.new_len ≡ new_len) × (r.parts.segments ≡ segments)) }
+        ensures parts { IfOk result (λ r. (r.parts.new_len ≡ new_len) × (r.parts.moves ≡ moves) × (r.parts.segments ≡ segments)) }
         ensures stage { IfOk result (λ r. r.stage ≡ Stage.Start) }
         ensures sound { IfOk result IsRewriting }
     {
         let buffer = vec![in alloc; 0; BLOCK]?;
+        let moved = vec![in alloc; 0; BLOCK]?;
         Ok(Rewriting {
-            parts: Parts { new_len, segments },
+            parts: Parts {
+                new_len,
+                moves,
+                segments,
+            },
             stage: Stage::Start,
             buffer,
+            moved,
         })
     }
 
@@ -210,6 +258,7 @@ impl Rewriting {
         ensures parts { self.new.parts ≡ self.old.parts }
         ensures stage { self.new.stage ≡ self.old.stage }
         ensures buffer { length self.new.buffer.items ≡ length self.old.buffer.items }
+        ensures moved { length self.new.moved.items ≡ length self.old.moved.items }
         ensures stays { held_of self.new ≡ held_of self.old }
         ensures read { OnOk result (HasRead (step_of self.old.parts self.old.stage) self.new.buffer.items (D.disk depot.old)) }
         ensures does { StepDoes (step_of self.old.parts self.old.stage) (held_of self.old) (D.disk depot.old) (D.disk depot.new) result }
@@ -225,6 +274,23 @@ impl Rewriting {
                 append_read(depot, self.parts.copy_len(i, from), &self.buffer)
             }
             Stage::Put(i, from) => append_block(depot, self.parts.literal(i), from),
+            Stage::ReadRows(i, first) => {
+                let table = self.parts.table(i);
+                let n = table.form.width() * self.parts.page_len(i, first) as usize;
+                read_block(depot, table.place(first), n, &mut self.buffer)
+            }
+            Stage::AppendRows(i, first) => {
+                let form = self.parts.table(i).form;
+                let rows = self.parts.page_len(i, first) as usize;
+                append_rows(
+                    depot,
+                    &form,
+                    rows,
+                    &self.parts.moves,
+                    &self.buffer,
+                    &mut self.moved,
+                )
+            }
             Stage::Seal => depot.sync_work(),
             Stage::Install => depot.install_main(),
             Stage::Ended => depot.install_main(),

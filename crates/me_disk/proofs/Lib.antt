@@ -7,3 +7,4 @@ mod Fronts
 pub mod Reopened
 pub mod CarriedOut
 pub mod Since
+pub mod Windows

@@ -10,3 +10,4 @@ pub mod Silent
 pub mod Sparse
 pub mod Holds
 pub mod Streams
+pub mod Windows

@@ -2,8 +2,8 @@
 ghost use Rattle.std.specs.Prelude.{◌≡◌, ◌≤◌};
 ghost use Rattle.me_disk.specs.Causes.{one_more, Rose};
 
-// Counts a fault, and is that fault.
-pub(crate) fn count_fault<F: Copy + Drop>(faults: &mut u64, fault: F) -> F
+/// Counts a fault, up to the last value of the count, and is that fault.
+pub fn count_fault<F: Copy + Drop>(faults: &mut u64, fault: F) -> F
     ensures value { result ≡ fault }
     ensures counted { faults.new ≡ one_more faults.old }
     ensures rose { Rose faults.old faults.new }

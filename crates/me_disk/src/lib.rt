@@ -5,7 +5,6 @@ mod counts;
 mod depot;
 mod limits;
 mod memory;
-mod path;
 mod pieces;
 mod reopen;
 mod sparse;
@@ -13,13 +12,15 @@ mod store;
 mod stream;
 #[cfg(test)]
 mod tests;
+mod window;
 
+pub use counts::count_fault;
 pub use depot::{Depot, DepotFault, Slot, WorkState};
 pub use limits::{FailAt, Room};
 pub use memory::{MemoryDepot, Pick};
-pub use path::PathDepot;
 pub use pieces::Run;
 pub use sparse::SparseDepot;
 pub use stream::{
     MemorySink, MemorySource, Sink, SinkFault, Source, SourceFault, StdSink, StdSource,
 };
+pub use window::{HeaderWindow, TableWindow, Window};

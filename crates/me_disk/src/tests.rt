@@ -2,14 +2,14 @@
 ghost use Rattle.std.specs.Prelude.{◌<◌, length};
 
 use crate::{
-    Depot, DepotFault, FailAt, MemoryDepot, MemorySink, MemorySource, PathDepot, Pick, Room, Run,
-    Sink, Slot, Source, SparseDepot,
+    Depot, DepotFault, FailAt, MemoryDepot, MemorySink, MemorySource, Pick, Room, Run, Sink, Slot,
+    Source, SparseDepot, StdSink, StdSource,
 };
 use std::alloc::Global;
+use std::io;
+use std::io::{Read, Write};
 use std::process::Abort;
-use std::rt::Files;
 use std::test::Fail;
-use std::{fs, process};
 
 const AMPLE: Room = Room {
     calls: 100,
@@ -269,6 +269,106 @@ fn a_source_gives_its_bytes_in_order(rt: HostRuntime) -> Result<(), Fail> {
     Ok(())
 }
 
+// A reader that gives a byte a call, and a writer that takes one. The call with this number fails.
+#[derive(Drop)]
+struct Drip {
+    bytes: &'static [u8],
+    calls: u64,
+    failing: u64,
+}
+
+impl Read for Drip {
+    fn read(&mut self, buf: &mut [u8]) -> io::Result<usize> {
+        self.calls = self.calls.saturating_add(1);
+        if self.calls == self.failing {
+            return Err(io::ErrorKind::Other.into());
+        }
+        match (self.bytes.split_first(), buf.first_mut()) {
+            (Some((byte, rest)), Some(place)) => {
+                *place = *byte;
+                self.bytes = rest;
+                Ok(1)
+            }
+            _ => Ok(0),
+        }
+    }
+}
+
+#[derive(Drop)]
+struct Narrow<'a> {
+    taken: &'a mut Vec<u8>,
+    calls: u64,
+    failing: u64,
+    flushes: bool,
+}
+
+impl Write for Narrow<'_> {
+    fn write(&mut self, buf: &[u8]) -> io::Result<usize> {
+        self.calls = self.calls.saturating_add(1);
+        if self.calls == self.failing {
+            return Err(io::ErrorKind::Other.into());
+        }
+        match buf.first() {
+            Some(byte) => {
+                self.taken.push(*byte)?;
+                Ok(1)
+            }
+            None => Ok(0),
+        }
+    }
+
+    fn flush(&mut self) -> io::Result<()> {
+        if self.flushes {
+            return Ok(());
+        }
+        Err(io::ErrorKind::Other.into())
+    }
+}
+
+#[test]
+fn a_source_over_a_reader_tells_its_errors(rt: HostRuntime) -> Result<(), Fail> {
+    let mut source = StdSource::new(Drip {
+        bytes: b"abc",
+        calls: 0,
+        failing: 2,
+    });
+    let mut into = [0u8; 3];
+    for (count, byte) in [
+        (Some(1), b'a'),
+        (None, b'a'),
+        (Some(1), b'b'),
+        (Some(1), b'c'),
+        (Some(0), b'c'),
+    ] {
+        assert_eq!(rt; source.read(&mut into).ok(), count);
+        assert_eq!(rt; into[0], byte);
+    }
+    Ok(())
+}
+
+#[test]
+fn a_sink_over_a_writer_takes_each_piece_whole_or_tells_a_fault(
+    rt: HostRuntime,
+) -> Result<(), Fail> {
+    for (failing, flushes, ok, left) in [
+        (0, true, true, b"abc".as_slice()),
+        (3, true, false, b"ab"),
+        (0, false, false, b"abc"),
+    ] {
+        let mut taken = Vec::new(rt.alloc());
+        let mut sink = StdSink::new(Narrow {
+            taken: &mut taken,
+            calls: 0,
+            failing,
+            flushes,
+        });
+        assert_eq!(rt; sink.write_all(b"abc").is_ok(), ok);
+        drop(sink);
+        assert_eq!(rt; taken.as_slice(), left);
+    }
+    Ok(())
+}
+
 #[test]
 fn a_sink_takes_whole_pieces(rt: HostRuntime) -> Result<(), Fail> {
     let failing = [2].to_vec(rt.alloc())?;
@@ -278,44 +378,6 @@ fn a_sink_takes_whole_pieces(rt: HostRuntime) -> Result<(), Fail> {
     assert!(rt; sink.write_all(b"def").is_err());
     assert!(rt; sink.write_all(b"de").is_ok());
     assert_eq!(rt; sink.written(), b"abcde".as_slice());
-    Ok(())
-}
-
-fn edit_in_place<R: Files + Clone + Drop>(depot: &mut PathDepot<R>) -> Result<(), DepotFault> {
-    depot.write_main(2, b"XY")?;
-    depot.set_main_len(5)?;
-    depot.sync_main()?;
-    depot.drop_journal()
-}
-
-fn put_main<R: Files + Clone + Drop>(depot: &mut PathDepot<R>) -> Result<(), DepotFault> {
-    depot.begin_work()?;
-    depot.append_work(b"new")?;
-    depot.sync_work()?;
-    depot.install_main()
-}
-
-fn check_edit<R: Files + Clone + Drop>(rt: &impl Abort, depot: &mut PathDepot<R>) {
-    let mut into = [0u8; 4];
-    assert!(rt; put_journal(depot, b"redo").is_ok());
-    assert_eq!(rt; depot.len(Slot::Journal).ok(), Some(4));
-    assert!(rt; edit_in_place(depot).is_ok());
-    assert_eq!(rt; depot.has(Slot::Journal).ok(), Some(false));
-    assert!(rt; depot.read_at(Slot::Main, 1, &mut into).is_ok());
-    assert_eq!(rt; &into, b"bXYe");
-    assert!(rt; depot.read_at(Slot::Main, 2, &mut into).is_err());
-    assert_eq!(rt; depot.faults(), 1);
-}
-
-#[test]
-fn a_depot_over_a_path_keeps_its_files(rt: HostRuntime) -> Result<(), Fail> {
-    let name = format!(in rt.alloc(); "/tmp/me-disk-test-{}", process::id(rt.process()))?;
-    fs::write(&rt, name.as_str(), b"abcdef")?;
-    let mut depot = PathDepot::new(rt.clone()?, rt.alloc(), name.as_str())?;
-    check_edit(&rt, &mut depot);
-    assert!(rt; put_main(&mut depot).is_ok());
-    assert_eq!(rt; fs::read(&rt, name.as_str())?.as_slice(), b"new".as_slice());
-    fs::remove_file(&rt, name.as_str())?;
     Ok(())
 }
 

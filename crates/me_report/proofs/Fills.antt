@@ -1,7 +1,7 @@
 -- The values of lawful fields fill their names.
 use Rattle.std.proofs.Common.{◌≡◌, ℕ, ◌<◌, List, [], ◌∷◌, length, get_or, sym, ap, ◌∙◌, subst, arith, inl, inr}
 use Rattle.part_tree.specs.declared.field.FieldName.{FieldName}
-use Rattle.part_tree.specs.declared.field.FieldName.TheVariants.{Bext, Info, Whole, User}
+use Rattle.part_tree.specs.declared.field.FieldName.TheVariants.{Bext, Info, Whole, User, Key, Stream}
 use Rattle.part_tree.specs.declared.field.BextField.{BextField}
 use Rattle.part_tree.specs.declared.field.Value.{Value}
 use Rattle.field_model.specs.Body.{FillsRange}
@@ -19,6 +19,4 @@ bext_fills f field vs i d (inr none) same inside = absurd (omega (arith, inside,
 
 pub value_fills : (f : FieldMap) (name : FieldName) (vs : List Value) (i : ℕ) (d : Value) → IsLawful f → vs ≡ f name → i < length vs → FillsName name (get_or vs i d).raw
 value_fills f (Bext field) vs i d lawful same inside = bext_fills f field vs i d lawful same inside
-value_fills f (Info id) vs i d lawful same inside = tt
-value_fills f (Whole id) vs i d lawful same inside = tt
-value_fills f (User id) vs i d lawful same inside = tt
+value_fills f other vs i d lawful same inside = tt

@@ -1,3 +1,2 @@
-mod Few
 mod Fills
 mod Rest

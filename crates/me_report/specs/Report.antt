@@ -5,25 +5,18 @@ use Rattle.part_tree.specs.declared.field.FieldName.{FieldName}
 use Rattle.part_tree.specs.declared.field.Value.{Value}
 use Rattle.part_tree.specs.declared.fields.Entry.{Entry}
 use Rattle.part_tree.specs.declared.names.Kind.{Kind}
-use Rattle.part_tree.specs.declared.names.Kind.TheVariants.{Wave, Rf64, Avi, Mov}
 use Rattle.part_tree.specs.Fields.{names, values}
 use Rattle.part_tree.specs.Shows.{Told}
 use Rattle.field_model.specs.Fields.{FieldMap}
+use Rattle.field_model.specs.KindFacts.{facts}
 use Rattle.field_model.specs.Shown.{shown}
 use Rattle.field_model.specs.Texts.{name_text}
 use Rattle.escapes.specs.Escapes.{escaped}
 use Rattle.me_report.specs.Lines.{count_line, or_nothing}
 
--- the word of a kind
-abbrev pub kind_word : Kind → List ℕ
-kind_word Wave = codes "wave"
-kind_word Rf64 = codes "rf64"
-kind_word Avi = codes "avi"
-kind_word Mov = codes "mov"
-
 -- the line of a kind
 abbrev pub kind_line : Kind → List ℕ
-kind_line kind = codes "kind " ++ (kind_word kind ++ codes "\n")
+kind_line kind = codes "kind " ++ ((facts kind).word ++ codes "\n")
 
 -- the line of the counted entries of indexes, where they are counted
 abbrev pub index_line : Option ℕ → List ℕ

@@ -1,10 +1,11 @@
 // What is shown of a file.
 ghost use Rattle.std.specs.Prelude.{◌≡◌, ◌++◌, ◌≤◌, [], IfOk, OnOk, Err};
 ghost use Rattle.part_tree.specs.Fields.{values};
+ghost use Rattle.field_model.specs.KindFacts.{facts};
 ghost use Rattle.field_model.specs.Lawful.{FillsName, IsLawful};
 ghost use Rattle.me_disk.specs.Causes.{Rose};
 ghost use Rattle.me_disk.specs.Steps.{ReadsOnly};
-ghost use Rattle.me_report.specs.Report.{all_lines, field_lines, index_line, kind_line, kind_word as word, show_report, text_line, value_line};
+ghost use Rattle.me_report.specs.Report.{all_lines, field_lines, index_line, kind_line, show_report, text_line, value_line};
 
 use crate::text::{put, put_count, put_name};
 use core_edit::shown;
@@ -21,11 +22,12 @@ pub enum ReportFault {
 }
 
 fn kind_word(kind: Kind) -> &'static [u8]
-    ensures { result.now ≡ word kind }
+    ensures { result.now ≡ (facts kind).word }
 {
     match kind {
         Kind::Wave => b"wave",
         Kind::Rf64 => b"rf64",
+        Kind::Bw64 => b"bw64",
         Kind::Avi => b"avi",
         Kind::Mov => b"mov",
     }

@@ -1,8 +1,9 @@
 // Edits the metadata of WAVE and RF64 files: `metaedit set FILE NAME=VALUE..`.
 #![tactic(auto)]
 
+use folder_depot::{ClosedStreams, PathDepot};
 use me_bytes::NoMemory;
-use me_disk::{PathDepot, StdSink, StdSource};
+use me_disk::{StdSink, StdSource};
 use metaedit_top::{Word, code, line_of, metaedit};
 use std::alloc::Global;
 use std::env;
@@ -22,6 +23,8 @@ enum WordsFault {
 }
 
 fn main(rt: HostRuntime) -> ExitCode {
+    // without the device that fills them they stay closed
+    let _filled = ClosedStreams::fill(&rt);
     let words = match read_words(&rt) {
         Ok(words) => words,
         Err(WordsFault::Memory) => return ExitCode::from(NO_MEMORY),

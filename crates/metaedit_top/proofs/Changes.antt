@@ -26,6 +26,7 @@ use Rattle.metaedit_top.specs.declared.outcome.Finished.{Finished}
 use Rattle.metaedit_top.specs.Changed.{IsChanged, MayChange, change_bytes, changed_summary, is_in_place, roomy}
 use Rattle.part_tree.specs.Plans.{applied}
 use Rattle.metaedit_top.proofs.Acted.{alone_only}
+use Rattle.edit_journal.specs.Journal.{bytes_in_place}
 
 not_true : (t : Bool) → (t ≡ true → ⊥) → t ≡ false
 not_true true h = absurd (h refl)
@@ -34,15 +35,15 @@ not_true false h = refl
 -- in place exactly where there is room
 pub place_is : (o : List ℕ) (e : List EditItem) (p : Plan) → IsForm o e p → roomy o e ≡ is_in_place p
 place_is o e (InPlace old new ps) form = form.0
-place_is o e (Rewrite new segments) form = not_true (roomy o e) form.0
+place_is o e (Rewrite new moves segments) form = not_true (roomy o e) form.0
 
 -- and these bytes are written
 pub bytes_are : (o : List ℕ) (e : List EditItem) (p : Plan) → IsForm o e p → bytes_written p ≡ change_bytes o e
 bytes_are o e (InPlace old new ps) form =
-    ap (λ (qs : List Patch). 24 + 12 * length qs + 2 * all_bytes qs) form.3
-    ∙ sym (ap (λ (t : Bool). cond t (24 + 12 * length (patches o e) + 2 * all_bytes (patches o e)) (length (new_file o e))) form.0)
-bytes_are o e (Rewrite new segments) form =
-    form.1 ∙ sym (ap (λ (t : Bool). cond t (24 + 12 * length (patches o e) + 2 * all_bytes (patches o e)) (length (new_file o e))) (not_true (roomy o e) form.0))
+    ap (λ (qs : List Patch). bytes_in_place qs) form.3
+    ∙ sym (ap (λ (t : Bool). cond t (bytes_in_place (patches o e)) (length (new_file o e))) form.0)
+bytes_are o e (Rewrite new moves segments) form =
+    form.1 ∙ sym (ap (λ (t : Bool). cond t (bytes_in_place (patches o e)) (length (new_file o e))) (not_true (roomy o e) form.0))
 
 none_yet : (p : Plan) → bytes_by p 0 ≡ 0
 none_yet p = refl

@@ -5,7 +5,7 @@ use Rattle.std.specs.List.{flat_map, list_any, position_or_len}
 use Rattle.std.specs.Str.{bytes_eq}
 use Rattle.std.proofs.lemmas.Bool.{eqb-true, and_parts, ltb-true}
 use Rattle.part_tree.specs.declared.field.FieldName.{FieldName}
-use Rattle.part_tree.specs.declared.field.FieldName.TheVariants.{Bext, Info, Whole, User}
+use Rattle.part_tree.specs.declared.field.FieldName.TheVariants.{Bext, Info, Whole, User, Key, Stream}
 use Rattle.part_tree.specs.declared.fields.Entry.{Entry}
 use Rattle.part_tree.specs.declared.names.FourCc.{FourCc}
 use Rattle.part_tree.specs.Fields.{names, values, Ascends}
@@ -43,12 +43,21 @@ absent low [] n asc less = refl
 absent low (e ∷ es) n asc less =
     behind e es n (others e.name n (λ (same : field_place e.name ≡ field_place n). omega (arith, same, less, asc.0))) ∙ absent (suc (field_place e.name)) es n asc.3 (omega (arith, less, asc.0))
 
-module _ (f : FieldMap) (g : FieldName → List ℕ) (none : (n : FieldName) → f n ≡ [] → g n ≡ []) (no_user : (id : FourCc) → f (User id) ≡ []) where
+-- a name behind the whole chunks: of user data, a key or a stream
+abbrev pub IsOther : FieldName → Type 0
+IsOther (Bext field) = ⊥
+IsOther (Info id) = ⊥
+IsOther (Whole id) = ⊥
+IsOther n = Unit {0}
+
+module _ (f : FieldMap) (g : FieldName → List ℕ) (none : (n : FieldName) → f n ≡ [] → g n ≡ []) (no_other : (n : FieldName) → IsOther n → f n ≡ []) where
   none_there : (n : FieldName) → IsFieldName n → 36 ≤ field_place n → f n ≡ []
   none_there (Bext field) h le = absurd (omega (arith, le, row_small field))
   none_there (Info id) h le = absurd (omega (arith, le, inside id.0 info_ids h))
   none_there (Whole id) h le = absurd (omega (arith, le, inside id.0 whole_ids h))
-  none_there (User id) h le = no_user id
+  none_there (User id) h le = no_other (User id) tt
+  none_there (Key name) h le = no_other (Key name) tt
+  none_there (Stream k) h le = no_other (Stream k) tt
 
   users : (low : ℕ) (es : List Entry) → 36 ≤ low → Ascends low es → flat_map g (names es) ≡ []
   unfolding none_there

@@ -9,49 +9,16 @@ use Rattle.part_tree.specs.declared.field.FieldName.{FieldName}
 use Rattle.part_tree.specs.declared.field.FieldName.TheVariants.{User}
 use Rattle.part_tree.specs.Letters.{four}
 use Rattle.part_tree.specs.Names.{is_user_type, field_names}
-use Rattle.field_model.specs.Texts.{name_text, is_text, user_type, user_name, or_user, field_name}
+use Rattle.field_model.specs.Texts.{field_name}
+use Rattle.field_model.proofs.Names.{named_text}
 use Rattle.core_edit.specs.Edits.{IsNamed, is_empty_set, names_one, Wrong, twice, empty, wrong_from, wrong}
 use Rattle.metaedit_top.specs.declared.outcome.UsageFault.{UsageFault}
 use Rattle.metaedit_top.specs.declared.outcome.UsageFault.TheVariants as fault
 use Rattle.metaedit_top.specs.Words.{Text, Items, item, items_from, before_items, twice_from, edit_by, edit_in, edit_of}
 
--- ---- a name that a text names is named by a text
-
-abbrev or_this : {X : Type 0} → X → Option X → X
-or_this d None = d
-or_this d (Some y) = y
-
-some_same : {X : Type 0} {x y : X} → Some x ≡ Some y → x ≡ y
-some_same {X} {x} {y} e = ap (or_this x) e
-
-found_passes : {X : Type 0} (p : X → Bool) (xs : List X) (x : X) → find p xs ≡ Some x → p x ≡ true
-found_passes p [] x h = absurd cc
-found_passes {X} p (y ∷ ys) x h = go (p y) refl (found_passes p ys x) h
-  where
-    go : (t : Bool) → p y ≡ t → (find p ys ≡ Some x → p x ≡ true) → cond t (Some y) (find p ys) ≡ Some x → p x ≡ true
-    go true e more h = subst (λ (z : X). p z ≡ true) (some_same h) e
-    go false e more h = more h
-
-has_text : (text : List ℕ) (o : Option (List ℕ)) → is_text text o ≡ true → IsTrue (is_some o)
-has_text text None h = absurd cc
-has_text text (Some t) h = refl
-
-user_named : (text : List ℕ) (name : FieldName) → user_name text ≡ Some name → IsNamed name
-user_named text name h = go (Rattle.std.specs.Str.bytes_eq (take 1 text) (codes "@") && is_user_type (user_type text)) refl h
-  where
-    go : (t : Bool) → (Rattle.std.specs.Str.bytes_eq (take 1 text) (codes "@") && is_user_type (user_type text)) ≡ t → cond t (Some (User (four (user_type text)))) None ≡ Some name → IsNamed name
-    go true e h =
-        let it : is_user_type (user_type text) ≡ true = (and_parts (Rattle.std.specs.Str.bytes_eq (take 1 text) (codes "@")) (is_user_type (user_type text)) e).1 in
-        subst IsNamed (some_same h) (subst (λ (t : Bool). IsTrue (is_some (cond t (Some (64 ∷ drop 1 (user_type text))) None))) (sym it) refl)
-    go false e h = absurd cc
-
 -- a name that a text names
 pub is_named : (text : List ℕ) (name : FieldName) → field_name text ≡ Some name → IsNamed name
-is_named text name h = go (find (λ (n : FieldName). is_text text (name_text n)) field_names) refl h
-  where
-    go : (o : Option FieldName) → find (λ (n : FieldName). is_text text (name_text n)) field_names ≡ o → or_user text o ≡ Some name → IsNamed name
-    go None e h = user_named text name h
-    go (Some n) e h = subst IsNamed (some_same h) (has_text text (name_text n) (found_passes (λ (n : FieldName). is_text text (name_text n)) field_names n e))
+is_named text name h = ap is_some (named_text text name h)
 
 -- ---- items one by one
 

@@ -26,6 +26,7 @@ use Rattle.part_tree.specs.Patches.{all_bytes}
 use Rattle.edit_journal.specs.Settled.{Settles, StandsAlone}
 use Rattle.field_model.specs.Broken.{Test, on_item, on_fields, Rule, rules, chooses, failing, findings_from, findings, first_found, first_name, broken}
 use Rattle.field_model.specs.Fields.{FieldMap}
+use Rattle.field_model.proofs.Effective.{all_effective, raw_same}
 use Rattle.field_model.specs.Update.{RawItem, raw_item, raw_items, effective, has_effect, updated}
 use Rattle.container_model.specs.Chunk.{Chunk, spell}
 use Rattle.container_model.specs.Walk.{along}
@@ -56,22 +57,7 @@ use Rattle.metaedit_top.specs.Set.{idle_summary}
 use Rattle.metaedit_top.specs.Stage.{ActLeaves, ActStops, HasActed, IsSettled, OnHeld, ReadsFile}
 use Rattle.metaedit_top.proofs.Acted.{alone_on}
 use Rattle.part_tree.specs.declared.plan.Patch.{Patch}
-
--- ---- items with an effect
-
-filtered : {X : Type 0} (p : X → Bool) (xs : List X) → filter p (filter p xs) ≡ filter p xs
-filtered p [] = refl
-filtered {X} p (x ∷ xs) = go (p x) refl (filtered p xs)
-  where
-    go : (t : Bool) → p x ≡ t → filter p (filter p xs) ≡ filter p xs → filter p (cond t (x ∷ filter p xs) (filter p xs)) ≡ cond t (x ∷ filter p xs) (filter p xs)
-    go true e more = ap (λ (s : Bool). cond s (x ∷ filter p (filter p xs)) (filter p (filter p xs))) e ∙ ap (λ (ys : List X). x ∷ ys) more
-    go false e more = more
-
-pub all_effective : (f : FieldMap) (e : List EditItem) → effective f (effective f e) ≡ effective f e
-all_effective f e = filtered (has_effect f) e
-
-raw_same : (f : FieldMap) (e : List EditItem) → raw_items f (effective f e) ≡ raw_items f e
-raw_same f e = ap (filter_map raw_item) (all_effective f e)
+use Rattle.edit_journal.specs.Journal.{bytes_in_place}
 
 -- ---- rules
 
@@ -95,58 +81,58 @@ base_chosen s Fadgi h = absurd cc
 
 module _ (kind : Kind) (f : FieldMap) (e : List EditItem) (sets : RuleSet) where
   -- the items with an effect fail where the edit does
-  same_failing : (t : Test) → failing t kind f (effective f e) ≡ failing t kind f e
-  same_failing (on_item fails) = ap (λ (is : List EditItem). first_name (map (λ (i : EditItem). i.name) (filter (fails kind) is))) (all_effective f e)
+  same_failing : (t : Test) → failing t kind 0 f (effective f e) ≡ failing t kind 0 f e
+  same_failing (on_item fails) = ap (λ (is : List EditItem). first_name (map (λ (i : EditItem). i.name) (filter (fails kind 0) is))) (all_effective f e)
   same_failing (on_fields names fails) = ap (λ (rs : List RawItem). filter (fails (updated rs f)) (names kind)) (raw_same f e)
 
-  none_found : (n : ℕ) (rs : List Rule) → findings_from n rs kind f e sets ≡ [] → findings_from n rs kind f (effective f e) Base ≡ []
+  none_found : (n : ℕ) (rs : List Rule) → findings_from n rs kind 0 f e sets ≡ [] → findings_from n rs kind 0 f (effective f e) Base ≡ []
   unfolding same_failing
   none_found n [] h = refl
   none_found n (r ∷ rs) h = go (chooses Base r.set) (chooses sets r.set) (base_chosen sets r.set) h (none_found (suc n) rs)
     where
       found : List Broken
-      found = map (λ (name : FieldName). record { rule = n; field = name }) (failing r.test kind f e)
+      found = map (λ (name : FieldName). record { rule = n; field = name }) (failing r.test kind 0 f e)
 
-      go : (s t : Bool) → (s ≡ true → t ≡ true) → cond t found [] ++ findings_from (suc n) rs kind f e sets ≡ []
-          → (findings_from (suc n) rs kind f e sets ≡ [] → findings_from (suc n) rs kind f (effective f e) Base ≡ [])
-          → cond s (map (λ (name : FieldName). record { rule = n; field = name }) (failing r.test kind f (effective f e))) [] ++ findings_from (suc n) rs kind f (effective f e) Base ≡ []
+      go : (s t : Bool) → (s ≡ true → t ≡ true) → cond t found [] ++ findings_from (suc n) rs kind 0 f e sets ≡ []
+          → (findings_from (suc n) rs kind 0 f e sets ≡ [] → findings_from (suc n) rs kind 0 f (effective f e) Base ≡ [])
+          → cond s (map (λ (name : FieldName). record { rule = n; field = name }) (failing r.test kind 0 f (effective f e))) [] ++ findings_from (suc n) rs kind 0 f (effective f e) Base ≡ []
       go true true on h more =
-          let parts = append_none found (findings_from (suc n) rs kind f e sets) h in
-          ap (λ (names : List FieldName). map (λ (name : FieldName). record { rule = n; field = name }) names ++ findings_from (suc n) rs kind f (effective f e) Base) (same_failing r.test)
-          ∙ ap (λ (bs : List Broken). bs ++ findings_from (suc n) rs kind f (effective f e) Base) parts.0 ∙ more parts.1
+          let parts = append_none found (findings_from (suc n) rs kind 0 f e sets) h in
+          ap (λ (names : List FieldName). map (λ (name : FieldName). record { rule = n; field = name }) names ++ findings_from (suc n) rs kind 0 f (effective f e) Base) (same_failing r.test)
+          ∙ ap (λ (bs : List Broken). bs ++ findings_from (suc n) rs kind 0 f (effective f e) Base) parts.0 ∙ more parts.1
       go true false on h more = absurd (not_true (on refl))
         where
           not_true : false ≡ true → ⊥
           not_true x = absurd cc
-      go false true on h more = more (append_none found (findings_from (suc n) rs kind f e sets) h).1
+      go false true on h more = more (append_none found (findings_from (suc n) rs kind 0 f e sets) h).1
       go false false on h more = more h
 
-  pub effective_fine : broken kind f e sets ≡ None → broken kind f (effective f e) Base ≡ None
+  pub effective_fine : broken kind 0 f e sets ≡ None → broken kind 0 f (effective f e) Base ≡ None
   unfolding none_found
-  effective_fine h = ap first_found (none_found 1 rules (found_none (findings kind f e sets) h))
+  effective_fine h = ap first_found (none_found 1 rules (found_none (findings kind 0 f e sets) h))
 
-  none_base : (n : ℕ) (rs : List Rule) → findings_from n rs kind f e sets ≡ [] → findings_from n rs kind f e Base ≡ []
+  none_base : (n : ℕ) (rs : List Rule) → findings_from n rs kind 0 f e sets ≡ [] → findings_from n rs kind 0 f e Base ≡ []
   none_base n [] h = refl
   none_base n (r ∷ rs) h = go (chooses Base r.set) (chooses sets r.set) (base_chosen sets r.set) h (none_base (suc n) rs)
     where
       found : List Broken
-      found = map (λ (name : FieldName). record { rule = n; field = name }) (failing r.test kind f e)
+      found = map (λ (name : FieldName). record { rule = n; field = name }) (failing r.test kind 0 f e)
 
-      go : (s t : Bool) → (s ≡ true → t ≡ true) → cond t found [] ++ findings_from (suc n) rs kind f e sets ≡ []
-          → (findings_from (suc n) rs kind f e sets ≡ [] → findings_from (suc n) rs kind f e Base ≡ []) → cond s found [] ++ findings_from (suc n) rs kind f e Base ≡ []
+      go : (s t : Bool) → (s ≡ true → t ≡ true) → cond t found [] ++ findings_from (suc n) rs kind 0 f e sets ≡ []
+          → (findings_from (suc n) rs kind 0 f e sets ≡ [] → findings_from (suc n) rs kind 0 f e Base ≡ []) → cond s found [] ++ findings_from (suc n) rs kind 0 f e Base ≡ []
       go true true on h more =
-          let parts = append_none found (findings_from (suc n) rs kind f e sets) h in
-          ap (λ (bs : List Broken). bs ++ findings_from (suc n) rs kind f e Base) parts.0 ∙ more parts.1
+          let parts = append_none found (findings_from (suc n) rs kind 0 f e sets) h in
+          ap (λ (bs : List Broken). bs ++ findings_from (suc n) rs kind 0 f e Base) parts.0 ∙ more parts.1
       go true false on h more = absurd (not_true (on refl))
         where
           not_true : false ≡ true → ⊥
           not_true x = absurd cc
-      go false true on h more = more (append_none found (findings_from (suc n) rs kind f e sets) h).1
+      go false true on h more = more (append_none found (findings_from (suc n) rs kind 0 f e sets) h).1
       go false false on h more = more h
 
-  pub base_fine : broken kind f e sets ≡ None → broken kind f e Base ≡ None
+  pub base_fine : broken kind 0 f e sets ≡ None → broken kind 0 f e Base ≡ None
   unfolding none_base
-  base_fine h = ap first_found (none_base 1 rules (found_none (findings kind f e sets) h))
+  base_fine h = ap first_found (none_base 1 rules (found_none (findings kind 0 f e sets) h))
 
 -- ---- the map of a file
 
@@ -181,10 +167,10 @@ pub holds_back : (a b : Disk) (o : List ℕ) → ReadsOnly a b → Holds b o →
 holds_back a b o reads h = record { tells = subst IsTrue reads.tells h.tells; bytes = ap bytes_of (sym reads.main) ∙ h.bytes }
 
 -- the rule that the fields of the map break is the one that those of the file break
-pub broken_told : (o : List ℕ) (m : WaveMap) (e : List EditItem) (sets : RuleSet) (found : Option Broken) → IsMapOf o m → found ≡ broken m.kind (values m.fields) e sets
-    → broken (kind_of o) (fields o) e sets ≡ found
+pub broken_told : (o : List ℕ) (m : WaveMap) (e : List EditItem) (sets : RuleSet) (found : Option Broken) → IsMapOf o m → found ≡ broken m.kind 0 (values m.fields) e sets
+    → broken (kind_of o) 0 (fields o) e sets ≡ found
 broken_told o m e sets found is told =
-    ap (λ (k : Kind). broken k (fields o) e sets) (sym is.kind) ∙ ap (λ (f : FieldMap). broken m.kind f e sets) (sym (same_fields o m is)) ∙ sym told
+    ap (λ (k : Kind). broken k 0 (fields o) e sets) (sym is.kind) ∙ ap (λ (f : FieldMap). broken m.kind 0 f e sets) (sym (same_fields o m is)) ∙ sym told
 
 none_there : (e : List EditItem) → length e ≡ 0 → e ≡ []
 none_there [] h = refl
@@ -231,10 +217,10 @@ module _ (o : List ℕ) (all e : List EditItem) (is : e ≡ effective (fields o)
     pub bytes_same : edit_bytes o all ≡ change_bytes o e
     unfolding does_change patches_same
     bytes_same =
-        ap (λ (t : Bool). cond t (24 + 12 * length (patches o all) + 2 * all_bytes (patches o all)) (cond (changes o all) (length (new_file o all)) 0)) fits_same
-        ∙ ap (λ (t : Bool). cond (roomy o e) (24 + 12 * length (patches o all) + 2 * all_bytes (patches o all)) (cond t (length (new_file o all)) 0)) does_change
-        ∙ ap (λ (ps : List Patch). cond (roomy o e) (24 + 12 * length ps + 2 * all_bytes ps) (length (new_file o all))) (sym patches_same)
-        ∙ ap (λ (n : List ℕ). cond (roomy o e) (24 + 12 * length (patches o e) + 2 * all_bytes (patches o e)) (length n)) (sym new_same)
+        ap (λ (t : Bool). cond t (bytes_in_place (patches o all)) (cond (changes o all) (length (new_file o all)) 0)) fits_same
+        ∙ ap (λ (t : Bool). cond (roomy o e) (bytes_in_place (patches o all)) (cond t (length (new_file o all)) 0)) does_change
+        ∙ ap (λ (ps : List Patch). cond (roomy o e) (bytes_in_place ps) (length (new_file o all))) (sym patches_same)
+        ∙ ap (λ (n : List ℕ). cond (roomy o e) (bytes_in_place (patches o e)) (length n)) (sym new_same)
 
 -- ---- what is done, where the edit that is asked for is `set`
 
@@ -261,8 +247,8 @@ module _ (q : Request) (set_asked : q.command ≡ command.Set) where
   accepted o h = subst (λ (c : Command). AcceptsBy c q.rules q.edit o) (sym set_asked) h
 
   -- why is none, so the file is supported
-  module _ (o : List ℕ) (m : WaveMap) (bytes : IsBytes o) (is : IsMapOf o m) (fine : why_in o ≡ None) (unbroken : None ≡ broken m.kind (values m.fields) q.edit q.rules) where
-    rules_kept : broken (kind_of o) (fields o) q.edit q.rules ≡ None
+  module _ (o : List ℕ) (m : WaveMap) (bytes : IsBytes o) (is : IsMapOf o m) (fine : why_in o ≡ None) (unbroken : None ≡ broken m.kind 0 (values m.fields) q.edit q.rules) where
+    rules_kept : broken (kind_of o) 0 (fields o) q.edit q.rules ≡ None
     rules_kept = broken_told o m q.edit q.rules None is unbroken
 
     accepts_small : too_large o q.edit ≡ None → Accepts q o
@@ -281,7 +267,7 @@ module _ (q : Request) (set_asked : q.command ≡ command.Set) where
         let same : new_file o q.edit ≡ o = new_idle o bytes (why_supported o is.supported) q.edit none in
         let still : changes o q.edit ≡ false = ap (λ (es : List EditItem). not (is_idle es)) none in
         let nothing : edit_bytes o q.edit ≡ 0 =
-        ap (λ (t : Bool). cond (t && has_room (wave_of o) (raw_items (fields o) q.edit)) (24 + 12 * length (patches o q.edit) + 2 * all_bytes (patches o q.edit)) (cond t (length (new_file o q.edit)) 0)) still in
+        ap (λ (t : Bool). cond (t && has_room (wave_of o) (raw_items (fields o) q.edit)) (bytes_in_place (patches o q.edit)) (cond t (length (new_file o q.edit)) 0)) still in
         let told : f.summary ≡ summary q o = told_is o f.summary (summary_is ∙ ap (λ (n : ℕ). idle_summary n) (payload_is o m is) ∙ sym (ap (λ (t : Bool). idle_by t o) still)) in
         record {
           accepts = accepts_small small;
@@ -321,7 +307,7 @@ module _ (q : Request) (set_asked : q.command ≡ command.Set) where
 -- ---- by the file that was read, whatever it is
 
 module _ (q : Request) (set_asked : q.command ≡ command.Set) (a b : Disk) (m : WaveMap) (e : List EditItem) (reads : ReadsOnly a b)
-    (file : (o : List ℕ) → Holds a o → IsMapOf o m × (why_in o ≡ None)) (unbroken : None ≡ broken m.kind (values m.fields) q.edit q.rules)
+    (file : (o : List ℕ) → Holds a o → IsMapOf o m × (why_in o ≡ None)) (unbroken : None ≡ broken m.kind 0 (values m.fields) q.edit q.rules)
     (is : e ≡ effective (values m.fields) q.edit) where
   is_in : (o : List ℕ) → Holds a o → e ≡ effective (fields o) q.edit
   is_in o h = is ∙ ap (λ (f : FieldMap). effective f q.edit) (same_fields o m (file o h).0)
@@ -330,7 +316,7 @@ module _ (q : Request) (set_asked : q.command ≡ command.Set) (a b : Disk) (m :
   ready some = record {
     changes_all = ap (effective (values m.fields)) is ∙ all_effective (values m.fields) q.edit ∙ sym is;
     changes_some = some;
-    keeps_rules = ap (λ (es : List EditItem). broken m.kind (values m.fields) es Base) is ∙ effective_fine m.kind (values m.fields) q.edit q.rules (sym unbroken);
+    keeps_rules = ap (λ (es : List EditItem). broken m.kind 0 (values m.fields) es Base) is ∙ effective_fine m.kind (values m.fields) q.edit q.rules (sym unbroken);
   }
 
   pub idle_ends : (stood : Bool) (o : List ℕ) → IsSettled a → Holds a o → IsBytes o → length e ≡ 0 → (r : Result Finished Stop)
@@ -395,7 +381,7 @@ pub told_why : (q : Request) (a : Disk) (r : ReadFault) (w : Why) → q.command 
 told_why q a r w set_asked is file = (reads_it q set_asked, λ o h. subst (λ (f : ReadFault). ReadsFile o (Err f)) is (file o h))
 
 pub told_broken : (q : Request) (a : Disk) (m : WaveMap) (found : Broken) → q.command ≡ command.Set → ((o : List ℕ) → Holds a o → IsMapOf o m × (why_in o ≡ None))
-    → Some found ≡ broken m.kind (values m.fields) q.edit q.rules → (edits_file q.command ≡ true) × OnHeld a (λ o. (why_in o ≡ None) × (broken (kind_of o) (fields o) q.edit q.rules ≡ Some found))
+    → Some found ≡ broken m.kind 0 (values m.fields) q.edit q.rules → (edits_file q.command ≡ true) × OnHeld a (λ o. (why_in o ≡ None) × (broken (kind_of o) 0 (fields o) q.edit q.rules ≡ Some found))
 told_broken q a m found set_asked file told = (edits_it q set_asked, λ o h. ((file o h).1, broken_told o m q.edit q.rules (Some found) (file o h).0 told))
 
 pub is_none : (e : List EditItem) → true ≡ (length e == 0) → length e ≡ 0

@@ -9,10 +9,11 @@ use Rattle.me_disk.specs.Holds.{Holds, Inside}
 use Rattle.me_disk.specs.Steps.{ReadsOnly}
 use Rattle.part_tree.specs.declared.field.Broken.{Broken}
 use Rattle.part_tree.specs.declared.field.FieldName.{FieldName}
+use Rattle.part_tree.specs.declared.field.FieldName.TheVariants.{Bext, Info, Whole, User, Key, Stream}
 use Rattle.part_tree.specs.declared.field.RuleSet.{RuleSet}
 use Rattle.part_tree.specs.declared.names.Kind.{Kind}
 use Rattle.part_tree.specs.declared.names.Span.{Span}
-use Rattle.part_tree.specs.declared.names.Kind.TheVariants.{Wave, Rf64, Avi, Mov}
+use Rattle.part_tree.specs.declared.names.Kind.TheVariants.{Wave, Rf64, Bw64, Avi, Mov}
 use Rattle.part_tree.specs.declared.why.ReadFault.{ReadFault}
 use Rattle.part_tree.specs.declared.why.ReadFault.TheVariants as read
 use Rattle.part_tree.specs.declared.why.Why.{Why}
@@ -43,7 +44,7 @@ use Rattle.metaedit_top.specs.Run.{findings_in, look_summary, shown_text, summar
 use Rattle.metaedit_top.specs.Stage.{HasActed, IsSettled, OnHeld, ReadsFile}
 use Rattle.metaedit_top.proofs.Acted.{alone_on}
 use Rattle.metaedit_top.proofs.Sets.{same_fields, payload_is, holds_back}
-use Rattle.metaedit_top.proofs.FieldOrder.{all_shown}
+use Rattle.metaedit_top.proofs.FieldOrder.{IsOther, all_shown}
 use Rattle.metaedit_top.specs.Tell.{told_of}
 use Rattle.part_tree.specs.Fields.{IsMap, names}
 use Rattle.me_report.specs.Lines.{count_line}
@@ -74,23 +75,23 @@ most_of [] kind = 0
 most_of (r ∷ rs) kind = most r.test kind + most_of rs kind
 
 module _ (kind : Kind) (f : FieldMap) (sets : RuleSet) where
-  few_failing : (t : Test) → length (failing t kind f []) ≤ most t kind
+  few_failing : (t : Test) → length (failing t kind 0 f []) ≤ most t kind
   few_failing (on_item fails) = omega arith
   few_failing (on_fields names fails) = few (fails (update f [])) (names kind)
 
-  few_from : (n : ℕ) (rs : List Rule) → length (findings_from n rs kind f [] sets) ≤ most_of rs kind
+  few_from : (n : ℕ) (rs : List Rule) → length (findings_from n rs kind 0 f [] sets) ≤ most_of rs kind
   unfolding few_failing
   few_from n [] = omega arith
   few_from n (r ∷ rs) = go (chooses sets r.set) (few_from (suc n) rs)
     where
       found : List Broken
-      found = map (λ (name : FieldName). record { rule = n; field = name }) (failing r.test kind f [])
+      found = map (λ (name : FieldName). record { rule = n; field = name }) (failing r.test kind 0 f [])
 
-      go : (t : Bool) → length (findings_from (suc n) rs kind f [] sets) ≤ most_of rs kind
-          → length (cond t found [] ++ findings_from (suc n) rs kind f [] sets) ≤ most r.test kind + most_of rs kind
+      go : (t : Bool) → length (findings_from (suc n) rs kind 0 f [] sets) ≤ most_of rs kind
+          → length (cond t found [] ++ findings_from (suc n) rs kind 0 f [] sets) ≤ most r.test kind + most_of rs kind
       go true more =
-          let all = length-append found (findings_from (suc n) rs kind f [] sets) in
-          let same = same_count {Y = Broken} (λ (name : FieldName). record { rule = n; field = name }) (failing r.test kind f []) in
+          let all = length-append found (findings_from (suc n) rs kind 0 f [] sets) in
+          let same = same_count {Y = Broken} (λ (name : FieldName). record { rule = n; field = name }) (failing r.test kind 0 f []) in
           let mine = few_failing r.test in
           omega (arith, all, same, mine, more)
       go false more = omega (arith, more)
@@ -98,10 +99,11 @@ module _ (kind : Kind) (f : FieldMap) (sets : RuleSet) where
 few_rules : (kind : Kind) → most_of rules kind ≤ 1000
 few_rules Wave = omega arith
 few_rules Rf64 = omega arith
+few_rules Bw64 = omega arith
 few_rules Avi = omega arith
 few_rules Mov = omega arith
 
-pub few_found : (kind : Kind) (f : FieldMap) (sets : RuleSet) → length (findings kind f [] sets) ≤ 1000
+pub few_found : (kind : Kind) (f : FieldMap) (sets : RuleSet) → length (findings kind 0 f [] sets) ≤ 1000
 few_found kind f sets = let all = few_from kind f sets 1 rules in let some = few_rules kind in omega (arith, all, some)
 
 -- ---- a command that only reads
@@ -139,14 +141,14 @@ module _ (q : Request) (is : q.command ≡ command.Validate) where
   validate_reads = ap reads_file is
 
   pub validate_acts : (a b : Disk) (m : WaveMap) (f : Finished) → ReadsOnly a b → ((o : List ℕ) → Holds a o → IsMapOf o m × (why_in o ≡ None)) → IsSettled a
-      → f.summary ≡ look_summary m.sound.len (length (findings m.kind (values m.fields) [] q.rules)) → f.text ≡ findings_text (findings m.kind (values m.fields) [] q.rules)
+      → f.summary ≡ look_summary m.sound.len (length (findings m.kind 0 (values m.fields) [] q.rules)) → f.text ≡ findings_text (findings m.kind 0 (values m.fields) [] q.rules)
       → (stood : Bool) (o : List ℕ) → Holds a o → HasActed q o stood a b f
   validate_acts a b m f reads file settled summary_is text_is stood o h =
       let mapped = (file o h).0 in
-      let found : findings m.kind (values m.fields) [] q.rules ≡ findings_in q.rules o =
-      ap (λ (k : Kind). findings k (values m.fields) [] q.rules) mapped.kind ∙ ap (λ (g : FieldMap). findings (kind_of o) g [] q.rules) (same_fields o m mapped) in
+      let found : findings m.kind 0 (values m.fields) [] q.rules ≡ findings_in q.rules o =
+      ap (λ (k : Kind). findings k 0 (values m.fields) [] q.rules) mapped.kind ∙ ap (λ (g : FieldMap). findings (kind_of o) 0 g [] q.rules) (same_fields o m mapped) in
       look_acts q (ap edits_file is) a b reads stood o f settled h (subst (λ (c : Command). AcceptsBy c q.rules q.edit o) (sym is) (file o h).1)
-      (summary_is ∙ ap (λ (n : ℕ). look_summary n (length (findings m.kind (values m.fields) [] q.rules))) (payload_is o m mapped)
+      (summary_is ∙ ap (λ (n : ℕ). look_summary n (length (findings m.kind 0 (values m.fields) [] q.rules))) (payload_is o m mapped)
       ∙ ap (λ (bs : List Broken). look_summary (payload o) (length bs)) found ∙ sym (ap (λ (c : Command). summary_by c q o) is))
       (text_is ∙ ap findings_text found ∙ sym (ap (λ (c : Command). report_by c q o stood) is))
 
@@ -201,6 +203,15 @@ module _ (q : Request) (is : q.command ≡ command.Md5) where
 no_lines : (f : FieldMap) (n : FieldName) → f n ≡ [] → field_lines f n ≡ []
 no_lines f n h = ap (λ (vs : List Value). flat_map (value_line f n) vs) h
 
+-- no file has values of names behind the whole chunks
+none_other : (o : List ℕ) (n : FieldName) → IsOther n → fields o n ≡ []
+none_other o (Bext field) h = absurd h
+none_other o (Info id) h = absurd h
+none_other o (Whole id) h = absurd h
+none_other o (User id) h = refl
+none_other o (Key name) h = refl
+none_other o (Stream k) h = refl
+
 -- the map shows what is shown of the file
 shown_is : (o : List ℕ) (m : WaveMap) → IsMapOf o m → IsMap m.fields → show_report (told_of m) ≡ shown_text o
 shown_is o m is ordered =
@@ -209,7 +220,7 @@ shown_is o m is ordered =
     ∙ ap (λ (n : ℕ). kind_line (kind_of o) ++ (count_line (codes "essence ") n ++ flat_map (field_lines (values m.fields)) (names m.fields))) (payload_is o m is)
     ∙ ap (λ (f : FieldMap). kind_line (kind_of o) ++ (count_line (codes "essence ") (payload o) ++ flat_map (field_lines f) (names m.fields))) same
     ∙ ap (λ (x : List ℕ). kind_line (kind_of o) ++ (count_line (codes "essence ") (payload o) ++ x))
-    (all_shown (fields o) (field_lines (fields o)) (no_lines (fields o)) (λ id. refl) m.fields ordered (λ n. sym (is.field_values n)))
+    (all_shown (fields o) (field_lines (fields o)) (no_lines (fields o)) (none_other o) m.fields ordered (λ n. sym (is.field_values n)))
 
 module _ (q : Request) (is : q.command ≡ command.Show) where
   pub show_reads : reads_file q.command ≡ true

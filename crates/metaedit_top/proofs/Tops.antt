@@ -136,7 +136,7 @@ module _ (words : List (List ℕ)) (q r : Request) (a b : Disk) (o : List ℕ) (
   not_broken w h =
       let x = h.1 tells in
       let ok = (edit_accepted h.0).unbroken in
-      none_some (sym ok ∙ ap (λ (p : List ℕ). broken (kind_of p) (fields p) r.edit r.rules) (sym (same_file x.0 x.1)) ∙ x.2.1)
+      none_some (sym ok ∙ ap (λ (p : List ℕ). broken (kind_of p) 0 (fields p) r.edit r.rules) (sym (same_file x.0 x.1)) ∙ x.2.1)
     where
       none_some : {y : Broken} → None ≡ Some y → ⊥
       none_some e = absurd cc

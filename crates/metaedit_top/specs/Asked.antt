@@ -21,6 +21,7 @@ use Rattle.wave_model.specs.Why.{why}
 use Rattle.metaedit_top.specs.declared.words.Command.{Command}
 use Rattle.metaedit_top.specs.declared.words.Command.TheVariants as command
 use Rattle.metaedit_top.specs.declared.words.Request.{Request}
+use Rattle.edit_journal.specs.Journal.{bytes_in_place}
 
 -- ---- the file
 
@@ -59,12 +60,12 @@ fits o e = changes o e && has_room (wave_of o) (raw_items (fields o) e)
 
 -- how many bytes the edit writes: in place a journal of its patches, and these; else the new file
 abbrev pub edit_bytes : List ℕ → List EditItem → ℕ
-edit_bytes o e = if fits o e then 24 + 12 * length (patches o e) + 2 * all_bytes (patches o e) else (if changes o e then length (new_file o e) else 0)
+edit_bytes o e = if fits o e then bytes_in_place (patches o e) else (if changes o e then length (new_file o e) else 0)
 
 -- The file is supported, the edit breaks none of the rules, and nothing of the new file is too large.
 pub record AcceptsEdit (rules : RuleSet) (e : List EditItem) (o : List ℕ) : Type 0 where
   pub supported : why_in o ≡ None
-  pub unbroken : broken (kind_of o) (fields o) e rules ≡ None
+  pub unbroken : broken (kind_of o) 0 (fields o) e rules ≡ None
   pub small : too_large o e ≡ None
 
 -- ---- a request

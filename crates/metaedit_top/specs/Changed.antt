@@ -10,7 +10,7 @@ use Rattle.part_tree.specs.declared.plan.Plan.TheVariants.{InPlace, Rewrite}
 use Rattle.part_tree.specs.Patches.{all_bytes}
 use Rattle.edit_journal.specs.Settled.{Settles, StandsAlone}
 use Rattle.field_model.specs.Update.{raw_items}
-use Rattle.carrier_model.specs.Large.{limited}
+use Rattle.part_tree.specs.Large.{limited}
 use Rattle.wave_model.specs.Fields.{fields}
 use Rattle.wave_model.specs.Large.{too_large}
 use Rattle.wave_model.specs.New.{new_file}
@@ -22,11 +22,12 @@ use Rattle.metaedit_top.specs.declared.outcome.Finished.{Finished}
 use Rattle.metaedit_top.specs.declared.outcome.Stop.{Stop}
 use Rattle.metaedit_top.specs.declared.outcome.Stop.TheVariants as stop
 use Rattle.metaedit_top.specs.Stage.{OnHeld}
+use Rattle.edit_journal.specs.Journal.{bytes_in_place}
 
 -- whether a plan is one in place
 abbrev pub is_in_place : Plan → Bool
 is_in_place (InPlace old new ps) = true
-is_in_place (Rewrite new segments) = false
+is_in_place (Rewrite new moves segments) = false
 
 -- whether the edit has room in place
 abbrev pub roomy : List ℕ → List EditItem → Bool
@@ -34,7 +35,7 @@ roomy o e = has_room (wave_of o) (raw_items (fields o) e)
 
 -- how many bytes the edit writes
 abbrev pub change_bytes : List ℕ → List EditItem → ℕ
-change_bytes o e = if roomy o e then 24 + 12 * length (patches o e) + 2 * all_bytes (patches o e) else length (new_file o e)
+change_bytes o e = if roomy o e then bytes_in_place (patches o e) else length (new_file o e)
 
 -- the summary of the edit of a file whose sound has so many bytes
 abbrev pub changed_summary : List ℕ → List EditItem → ℕ → Summary

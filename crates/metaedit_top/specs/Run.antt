@@ -14,7 +14,7 @@ use Rattle.md5.specs.Md5.{md5}
 use Rattle.field_model.specs.Broken.{broken, findings}
 use Rattle.part_tree.specs.declared.field.Broken.{Broken}
 use Rattle.part_tree.specs.declared.field.RuleSet.{RuleSet}
-use Rattle.carrier_model.specs.Large.{Size}
+use Rattle.part_tree.specs.Large.{Size}
 use Rattle.wave_model.specs.Fields.{fields}
 use Rattle.wave_model.specs.Large.{too_large}
 use Rattle.wave_model.specs.Wave.{kind_of}
@@ -53,7 +53,7 @@ shown_text o = kind_line (kind_of o) ++ (count_line (codes "essence ") (payload 
 
 -- what the fields of a file break as they stand
 abbrev pub findings_in : RuleSet → List ℕ → List Broken
-findings_in rules o = findings (kind_of o) (fields o) [] rules
+findings_in rules o = findings (kind_of o) 0 (fields o) [] rules
 
 -- whether a journal was redone
 abbrev pub was_redone : Recovered → Bool
@@ -138,7 +138,7 @@ pub record HasTold (q : Request) (o : List ℕ) (old : Disk) (f : Finished) : Ty
 -- a size of the new file passes its limit, and nothing else stands against the edit
 pub record IsTooLarge (q : Request) (o : List ℕ) (size : Size) : Type 0 where
   pub supported : why_in o ≡ None
-  pub unbroken : broken (kind_of o) (fields o) q.edit q.rules ≡ None
+  pub unbroken : broken (kind_of o) 0 (fields o) q.edit q.rules ≡ None
   pub large : too_large o q.edit ≡ Some size
 
 -- The file that the state at entry stands for stands alone, and a crash at any moment would have left what stands for it. A
@@ -159,7 +159,7 @@ Stops q old new stop.Depot = Rose old.faults new.faults
 Stops q old new stop.NoFile = IsTrue old.tells → old.slots.main ≡ None
 Stops q old new (stop.Damaged at) = IsTrue old.tells → IsBroken old.slots at
 Stops q old new (stop.NotSupported w) = (reads_file q.command ≡ true) × OnFile old (λ o. why_in o ≡ Some w)
-Stops q old new (stop.RuleBroken b) = (edits_file q.command ≡ true) × OnFile old (λ o. (why_in o ≡ None) × (broken (kind_of o) (fields o) q.edit q.rules ≡ Some b))
+Stops q old new (stop.RuleBroken b) = (edits_file q.command ≡ true) × OnFile old (λ o. (why_in o ≡ None) × (broken (kind_of o) 0 (fields o) q.edit q.rules ≡ Some b))
 Stops q old new (stop.TooLarge size limit) = (edits_file q.command ≡ true) × OnFile old (λ o. IsBytes o → IsTooLarge q o (record { size = size; limit = limit }))
 Stops q old new stop.Memory = ⊤
 

@@ -45,7 +45,7 @@ ActStops q old new stop.Depot = Rose old.faults new.faults
 ActStops q old new stop.NoFile = ⊥
 ActStops q old new (stop.Damaged at) = ⊥
 ActStops q old new (stop.NotSupported w) = (reads_file q.command ≡ true) × OnHeld old (λ o. why_in o ≡ Some w)
-ActStops q old new (stop.RuleBroken b) = (edits_file q.command ≡ true) × OnHeld old (λ o. (why_in o ≡ None) × (broken (kind_of o) (fields o) q.edit q.rules ≡ Some b))
+ActStops q old new (stop.RuleBroken b) = (edits_file q.command ≡ true) × OnHeld old (λ o. (why_in o ≡ None) × (broken (kind_of o) 0 (fields o) q.edit q.rules ≡ Some b))
 ActStops q old new (stop.TooLarge size limit) = (edits_file q.command ≡ true) × OnHeld old (λ o. IsBytes o → IsTooLarge q o (record { size = size; limit = limit }))
 ActStops q old new stop.Memory = ⊤
 

@@ -33,6 +33,7 @@ fn is_in_place(plan: &Plan) -> bool
         } => true,
         Plan::Rewrite {
             new_len: _,
+            moves: _,
             segments: _,
         } => false,
     }

@@ -32,7 +32,7 @@ fn is_later(kind: Option<Kind>) -> bool
 {
     match kind {
         Some(Kind::Avi | Kind::Mov) => true,
-        Some(Kind::Wave | Kind::Rf64) | None => false,
+        Some(Kind::Wave | Kind::Rf64 | Kind::Bw64) | None => false,
     }
 }
 

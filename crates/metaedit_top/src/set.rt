@@ -57,7 +57,7 @@ pub(crate) fn set<D: Depot>(
         Err(ReadFault::Memory) => return Err(Stop::Memory),
         Ok(map) => map,
     };
-    match first_broken(map.kind, &map.fields, &request.edit, request.rules) {
+    match first_broken(map.kind, 0, &map.fields, &request.edit, request.rules) {
         Some(broken) => return Err(Stop::RuleBroken(broken)),
         None => {}
     }

@@ -28,8 +28,8 @@ use wave_file::WaveMap;
 // What is told of the rules that fields break as they stand.
 fn tell_findings(alloc: Global, map: &WaveMap, rules: RuleSet) -> Result<Finished, NoMemory>
     requires { IsSound map.now }
-    ensures summary { IfOk result (λ f. f.summary ≡ look_summary map.now.sound.len (length (findings map.now.kind (values map.now.fields) [] rules))) }
-    ensures text { IfOk result (λ f. f.text ≡ findings_text (findings map.now.kind (values map.now.fields) [] rules)) }
+    ensures summary { IfOk result (λ f. f.summary ≡ look_summary map.now.sound.len (length (findings map.now.kind 0 (values map.now.fields) [] rules))) }
+    ensures text { IfOk result (λ f. f.text ≡ findings_text (findings map.now.kind 0 (values map.now.fields) [] rules)) }
 {
     let broken = all_broken(alloc, map.kind, &map.fields, rules)?;
     let text = validate_text(alloc, broken.as_slice())?;

@@ -21,8 +21,9 @@ use Rattle.mov_model.proofs.Cells.{all_new, all_read, has_solid, padding_no_udta
 use Rattle.mov_model.proofs.Laid.{hanging_none}
 use Rattle.mov_model.proofs.Parts.{udta_no_trak}
 use Rattle.mov_model.proofs.Tables.{relocated_alike, relocated_other}
-use Rattle.mov_model.proofs.User.{atom_made}
-use Rattle.mov_model.specs.Atoms.{atom, atoms_in, cell_by, cell_of, format, is, is_padding, moov}
+use Rattle.qt_text.proofs.User.{atom_made}
+use Rattle.mov_model.specs.Atoms.{cell_by, cell_of, format, is_padding, moov}
+use Rattle.container_model.specs.Atoms.{atom, atoms_in, is}
 use Rattle.mov_model.proofs.Fits.{Fits}
 use Rattle.mov_model.specs.Carried.{carried, carry_by, first_cell, fresh, has_carrier}
 use Rattle.mov_model.specs.Movie.{Movie, all_atoms, movie_of, spell_movie, split, split_by, top_run}
@@ -30,7 +31,7 @@ use Rattle.mov_model.specs.New.{edit_cuts, ends_file, fill, hanging, is_open, ne
 use Rattle.mov_model.specs.Parts.{first_user, has_id}
 use Rattle.mov_model.specs.Support.{Supported}
 use Rattle.mov_model.specs.Tables.{relocated}
-use Rattle.mov_model.specs.User.{udta, user_items}
+use Rattle.qt_text.specs.User.{udta, user_items}
 
 -- ---- moov among the atoms of the file
 
@@ -222,7 +223,7 @@ module _ (o : List ℕ) (bytes : IsBytes o) (sup : Supported o) where
   abbrev pub mov : Movie
   mov = movie_of o
 
-  whole : (all_atoms mov ≡ (top_run o).chunks) × (mov.left ≡ (top_run o).left) × (has_id (codes "moov") mov.before ≡ false)
+  pub whole : (all_atoms mov ≡ (top_run o).chunks) × (mov.left ≡ (top_run o).left) × (has_id (codes "moov") mov.before ≡ false)
   whole = split_whole (top_run o).chunks (top_run o).left sup.has_moov
 
   pub file_bytes : spell_movie mov ≡ o

@@ -12,7 +12,7 @@ use Rattle.container_model.specs.Items.{Item, edit_carrier, put_all}
 use Rattle.container_model.specs.Units.{Cell, edited, gap, kept, live, solid, solids, was}
 use Rattle.mov_model.specs.Atoms.{cell_by, cell_of, is_padding}
 use Rattle.mov_model.specs.Carried.{add_last, add_new, carried, carry_by, edit_by, edited_chunks, first_carrier, first_cell, fresh, has_carrier, only_gaps}
-use Rattle.mov_model.specs.User.{udta, user_items}
+use Rattle.qt_text.specs.User.{udta, user_items}
 
 -- ---- cells as they are read
 

@@ -1,7 +1,8 @@
 -- The clauses of the edit of a movie.
-use Rattle.std.proofs.Common.{Bool, List, Some, [], ap, arith, cond, false, leb, length, map, refl, sym, true, ℕ, ◌++◌, ◌+◌, ◌<◌, ◌∙◌, ◌∷◌, ◌≡◌, ◌≤◌}
+use Rattle.std.proofs.Common.{inl, inr, ◌-◌, Bool, List, Some, [], ap, arith, cond, false, leb, length, map, refl, sym, true, ℕ, ◌++◌, ◌+◌, ◌<◌, ◌∙◌, ◌∷◌, ◌≡◌, ◌≤◌}
 use Rattle.std.specs.Prelude.{codes, ◌&&◌}
-use Rattle.std.proofs.lemmas.Bool.{and_parts}
+use Rattle.std.specs.Prelude.{◌⊎◌}
+use Rattle.std.proofs.lemmas.Bool.{and_parts, cases_lt}
 use Rattle.std.proofs.lemmas.List.{length-append}
 use Rattle.std.proofs.lemmas.List.Concat.{flat_map-append}
 use Rattle.std.specs.Int.{to_be_bytes, to_le_bytes, w32, w64}
@@ -10,7 +11,7 @@ use Rattle.part_tree.specs.declared.field.Value.{Value}
 use Rattle.container_model.proofs.Codec.{IsBytes}
 use Rattle.container_model.proofs.Deep.{all_len}
 use Rattle.container_model.proofs.Items.{same_true, values_after}
-use Rattle.container_model.proofs.Places.{before_all, before_stays, old_length, past_moves}
+use Rattle.container_model.proofs.Places.{before_all, before_stays, cuts_ascend, old_length, past_moves}
 use Rattle.container_model.proofs.Units.{BringsPad, FillsWithPadding, units_bring, units_old, units_solids}
 use Rattle.container_model.specs.Chunk.{Chunk, Form, Run, header_bytes, long, riff, short, spell, spell_all, to_end, wide}
 use Rattle.container_model.specs.Deep.{Whole}
@@ -18,12 +19,21 @@ use Rattle.container_model.specs.Items.{Item, is_nil, updated, values}
 use Rattle.container_model.specs.Units.{Piece, copied, lay, replaced, shut, solid, solids, unit_bytes}
 use Rattle.mov_model.proofs.Again.{kids, kids_bytes, kids_joined, laid_alike, moov_again, moov_left, moov_padless, mov, move, now}
 use Rattle.mov_model.proofs.Cells.{gaps_carried, gaps_read, solids_carried, solids_map, was_carried, was_read}
-use Rattle.mov_model.proofs.Held.{NoMdat, held_moves}
+use Rattle.mov_model.proofs.Held.{NoMdat, held_moves, held_next, held_past, held_skip, numbered}
+use Rattle.carrier_model.proofs.Gaps.{places_put}
+use Rattle.carrier_model.specs.Gaps.{moves_of}
+use Rattle.container_model.proofs.Units.{spell_all-append}
+use Rattle.container_model.specs.Splice.{Ascend, Cut, Outside, end_of, shift}
+use Rattle.mov_model.specs.Pieces.{next_number}
+use Rattle.mov_model.proofs.Again.{file_bytes}
+use Rattle.part_tree.specs.Moves.{place}
 use Rattle.carrier_model.proofs.Fitted.{last_units}
 use Rattle.mov_model.proofs.Laid.{grown_brings, grown_new, grown_old}
 use Rattle.mov_model.proofs.Parts.{KidWhole, UserWhole, edited_relocated, first_user_relocated, items_all, nodes_all, nodes_relocated, tracks_all, tracks_relocated}
-use Rattle.mov_model.proofs.Tables.{all_long, moved_table, places_moved, relocated_id, relocated_pad, relocated_tables, samples_moved}
-use Rattle.mov_model.specs.Atoms.{atom, atoms_in, cell_of, format, is, is_padding, moov}
+use Rattle.mov_model.proofs.Tables.{relocated_id, relocated_pad, relocated_tables}
+use Rattle.sample_tables.proofs.Moved.{all_long, places_moved, samples_moved}
+use Rattle.mov_model.specs.Atoms.{cell_of, format, is_padding, moov}
+use Rattle.container_model.specs.Atoms.{atom, atoms_in, is}
 use Rattle.mov_model.proofs.Fits.{Fits, UserItems}
 use Rattle.mov_model.specs.Kept.{kept_in, nodes, placed}
 use Rattle.mov_model.specs.Carried.{carried, edited_chunks}
@@ -32,8 +42,9 @@ use Rattle.mov_model.specs.New.{edit_cuts, ends_file, ends_open, fill, gaps_of, 
 use Rattle.mov_model.specs.Parts.{first_items, first_user, parts, track_of, tracks}
 use Rattle.mov_model.specs.Pieces.{held, is_mdat, pieces_by, pieces_in, tail_of, track_pieces}
 use Rattle.mov_model.specs.Support.{IsHeld, Supported, TrackFine}
-use Rattle.mov_model.specs.Tables.{FitsRows, places, relocated, tables}
-use Rattle.mov_model.specs.User.{udta, user_items}
+use Rattle.mov_model.specs.Tables.{relocated, tables}
+use Rattle.sample_tables.specs.Tables.{moved_table, FitsRows, places}
+use Rattle.qt_text.specs.User.{udta, user_items}
 
 -- ---- padding is not looked at
 
@@ -198,6 +209,81 @@ module _ (m : Movie) (e : List (Item Value)) where
       go true = gaps_no_mdat m.behind
       go false = tt
 
+-- ---- where an edit puts the places of chunks
+
+ascend_more : (from low high : ℕ) (cs : List Cut) → low ≤ high → Ascend from cs low → Ascend from cs high
+ascend_more from low high [] le h = omega arith
+ascend_more from low high (c ∷ cs) le h = (h.0, ascend_more (end_of c) low high cs le h.1)
+
+held_inside : (k p : ℕ) (x : ℕ × List ℕ) (cs : List Chunk) → held k p cs ≡ Some x → p < length (spell_all cs)
+held_inside k p x [] h = absurd cc
+held_inside k p x (c ∷ cs) h = go (cases_lt p (length (spell c))) (λ g. held_inside (next_number c k) (p - length (spell c)) x cs g)
+  where
+    go : (p < length (spell c)) ⊎ (length (spell c) ≤ p) → (held (next_number c k) (p - length (spell c)) cs ≡ Some x → p - length (spell c) < length (spell_all cs)) → p < length (spell_all (c ∷ cs))
+    go (inl lt) again = omega (arith, length-append (spell c) (spell_all cs))
+    go (inr le) again = omega (arith, again (sym (held_next k p c cs le) ∙ h), length-append (spell c) (spell_all cs))
+
+module _ (o : List ℕ) (bytes : IsBytes o) (sup : Supported o) (e : List (Item Value)) where
+  abbrev was : Movie
+  was = mov o bytes sup
+
+  abbrev slots_end : ℕ
+  slots_end = kids_at was e + old_length (whole_pieces was e)
+
+  moov_length : length (spell_all (was.movie ∷ slot_behind was e)) ≡ length (header_bytes was.movie.form was.movie.id (length was.movie.body)) + length was.movie.body + length (spell_all (slot_behind was e))
+  moov_length =
+      let head = header_bytes was.movie.form was.movie.id (length was.movie.body) in
+      omega (arith, length-append (spell was.movie) (spell_all (slot_behind was e)), length-append head (was.movie.body ++ was.movie.pad), length-append was.movie.body was.movie.pad, ap length (moov_padless o bytes sup))
+
+  body_length : length was.movie.body ≡ length (spell_all (kids o bytes sup)) + length (moov_left o bytes sup)
+  body_length = ap length (sym (kids_joined o bytes sup)) ∙ length-append (spell_all (kids o bytes sup)) (moov_left o bytes sup)
+
+  inside_file : slots_end ≤ length o
+  inside_file =
+      let all : spell_all (all_atoms was) ≡ spell_all was.before ++ (spell_all (was.movie ∷ slot_behind was e) ++ spell_all (rest_behind was e))
+      = ap (λ (cs : List Chunk). spell_all (was.before ++ was.movie ∷ cs)) (sym (behind_split was e)) ∙ spell_all-append was.before ((was.movie ∷ slot_behind was e) ++ rest_behind was e)
+      ∙ ap (λ (b : List ℕ). spell_all was.before ++ b) (spell_all-append (was.movie ∷ slot_behind was e) (rest_behind was e)) in
+      let file : length o ≡ length (spell_all (all_atoms was)) + length was.left = ap length (sym (file_bytes o bytes sup)) ∙ length-append (spell_all (all_atoms was)) was.left in
+      omega (
+        arith,
+        file,
+        ap length all,
+        length-append (spell_all was.before) (spell_all (was.movie ∷ slot_behind was e) ++ spell_all (rest_behind was e)),
+        length-append (spell_all (was.movie ∷ slot_behind was e)) (spell_all (rest_behind was e)),
+        moov_length,
+        body_length,
+        whole_old was e,
+        kept_bytes was e,
+      )
+
+  -- the slots ascend and lie in the file
+  pub slots_ascend : Ascend 0 (edit_cuts was e) (length o)
+  slots_ascend = ascend_more 0 slots_end (length o) (edit_cuts was e) inside_file (cuts_ascend (fill (ends_file was e)) (kids_at was e) (whole_pieces was e) 0 (omega arith))
+
+  -- a place that an mdat holds is in none of them
+  pub held_outside : (p : ℕ) (x : ℕ × List ℕ) → held 0 p (all_atoms was) ≡ Some x → Outside (edit_cuts was e) p
+  held_outside p x h = go (cases_lt p (length (spell_all was.before)))
+    where
+      no : is_mdat was.movie ≡ false
+      no = rw sup.movie.is_moov refl
+
+      there : held 0 p (was.before ++ ((was.movie ∷ slot_behind was e) ++ rest_behind was e)) ≡ Some x
+      there = ap (λ (cs : List Chunk). held 0 p (was.before ++ was.movie ∷ cs)) (behind_split was e) ∙ h
+
+      go : (p < length (spell_all was.before)) ⊎ (length (spell_all was.before) ≤ p) → Outside (edit_cuts was e) p
+      go (inl lt) = (before_stays (edit_cuts was e) p (before_all (fill (ends_file was e)) (kids_at was e) (whole_pieces was e) p (omega arith))).0
+      go (inr le) =
+          let k = numbered 0 was.before in
+          let past : held k (p - length (spell_all was.before)) ((was.movie ∷ slot_behind was e) ++ rest_behind was e) ≡ Some x = sym (held_past 0 p was.before ((was.movie ∷ slot_behind was e) ++ rest_behind was e) le) ∙ there in
+          let r = held_skip k (p - length (spell_all was.before)) (was.movie ∷ slot_behind was e) (rest_behind was e) x (no, slot_no_mdats was e) past in
+          let far : slots_end ≤ p = omega (arith, le, r.0, moov_length, body_length, whole_old was e, kept_bytes was e) in
+          (past_moves (fill (ends_file was e)) (kids_at was e) (whole_pieces was e) p (whole_brings was e) far).0
+
+  pub put_law : (p : ℕ) (x : ℕ × List ℕ) → held 0 p (all_atoms was) ≡ Some x → place (moves_of (edit_cuts was e) (length o)) p ≡ Some (shift (edit_cuts was e) p)
+  put_law p x h =
+      let file : length o ≡ length (spell_all (all_atoms was)) + length was.left = ap length (sym (file_bytes o bytes sup)) ∙ length-append (spell_all (all_atoms was)) was.left in
+      places_put (edit_cuts was e) (length o) p slots_ascend (held_outside p x h) (omega (arith, file, held_inside 0 p x (all_atoms was) h))
+
 -- ---- the edit of a supported movie
 
 module _ (o : List ℕ) (bytes : IsBytes o) (sup : Supported o) (e : List (Item Value)) (user : UserItems e) (fits : Fits (mov o bytes sup) e) where
@@ -232,7 +318,7 @@ module _ (o : List ℕ) (bytes : IsBytes o) (sup : Supported o) (e : List (Item 
   new_fields name =
       ap (λ (cs : List Chunk). values user_items name (first_items cs)) new_parts
       ∙ ap (values user_items name) (items_all e (map (relocated f) (parts old)) user user_whole)
-      ∙ values_after user_items e name (first_items (map (relocated f) (parts old))) (Rattle.mov_model.proofs.User.all_made e user)
+      ∙ values_after user_items e name (first_items (map (relocated f) (parts old))) (Rattle.qt_text.proofs.User.all_made e user)
       ∙ ap (λ (cs : List Chunk). updated e name (values user_items name cs)) (Rattle.mov_model.proofs.Parts.items_relocated f (parts old))
 
   -- clause 3

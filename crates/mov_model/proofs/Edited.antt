@@ -16,7 +16,8 @@ use Rattle.mov_model.proofs.Again.{file_bytes, kids, kids_bytes, kids_joined, ki
 use Rattle.mov_model.proofs.Clauses.{new_fields, new_kept, new_pieces}
 use Rattle.mov_model.proofs.Supported.{new_supported}
 use Rattle.mov_model.proofs.Tables.{relocated_none}
-use Rattle.mov_model.specs.Atoms.{atoms_in, cell_by, cell_of, format, is_padding, moov}
+use Rattle.mov_model.specs.Atoms.{cell_by, cell_of, format, is_padding, moov}
+use Rattle.container_model.specs.Atoms.{atoms_in}
 use Rattle.mov_model.proofs.Fits.{EditedBy, Fits, UserItems}
 use Rattle.mov_model.specs.Kept.{kept_in}
 use Rattle.mov_model.specs.Movie.{Movie, movie_of, spell_movie}
@@ -25,7 +26,7 @@ use Rattle.mov_model.specs.Parts.{first_items, parts}
 use Rattle.mov_model.specs.Pieces.{pieces_in}
 use Rattle.mov_model.specs.Support.{Supported}
 use Rattle.mov_model.specs.Tables.{relocated}
-use Rattle.mov_model.specs.User.{user_items}
+use Rattle.qt_text.specs.User.{user_items}
 
 -- ---- without an item
 

@@ -27,9 +27,9 @@ are_bytes (x ∷ b) e (suc i) = are_bytes b (and_parts (ltb x 256) (all_below b)
 supported : Supported reel
 supported = none_supported reel fine_reel
 
-keeps_rules : broken Mov (fields reel) (set big) Base ≡ None
+keeps_rules : broken Mov 0 (fields reel) (set big) Base ≡ None
 unfolding read chunks is_utf8 chars encode
 keeps_rules = refl
 
 pub edited : Edited reel (set big) reel_named
-edited = subst (Edited reel (set big)) named_in_place (edit_law reel (set big) (are_bytes reel refl) supported keeps_rules not_too_large)
+edited = subst (Edited reel (set big)) named_in_place (edit_law reel (set big) (are_bytes reel refl) supported keeps_rules refl not_too_large)

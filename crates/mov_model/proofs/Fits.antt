@@ -13,8 +13,9 @@ use Rattle.mov_model.specs.Parts.{first_items, first_user, parts, tracks}
 use Rattle.mov_model.specs.Pieces.{pieces}
 use Rattle.mov_model.specs.Reading.{count_parts}
 use Rattle.mov_model.specs.Support.{Supported}
-use Rattle.mov_model.specs.Tables.{FitsRows, tables}
-use Rattle.mov_model.specs.User.{IsUserValue, udta, user_items}
+use Rattle.mov_model.specs.Tables.{tables}
+use Rattle.sample_tables.specs.Tables.{FitsRows}
+use Rattle.qt_text.specs.User.{IsUserValue, udta, user_items}
 
 -- the values of a type of user items
 abbrev pub user_values : List ℕ → List ℕ → List Value

@@ -16,7 +16,7 @@ numbered k (c ∷ cs) = numbered (next_number c k) cs
 held_first : (k p : ℕ) (c : Chunk) (cs : List Chunk) → p < length (spell c) → held k p (c ∷ cs) ≡ held_here k p c
 held_first k p c cs lt = rw (lt-ltb p (length (spell c)) lt) refl
 
-held_next : (k p : ℕ) (c : Chunk) (cs : List Chunk) → length (spell c) ≤ p → held k p (c ∷ cs) ≡ held (next_number c k) (p - length (spell c)) cs
+pub held_next : (k p : ℕ) (c : Chunk) (cs : List Chunk) → length (spell c) ≤ p → held k p (c ∷ cs) ≡ held (next_number c k) (p - length (spell c)) cs
 held_next k p c cs le = rw (le-ltb p (length (spell c)) le) refl
 
 -- a place in the first atoms is held as if these were all

@@ -17,9 +17,11 @@ use Rattle.container_model.specs.Units.{Piece, copied, replaced, shut, old_bytes
 use Rattle.container_model.proofs.Places.{old_length}
 use Rattle.container_model.proofs.Read.{AtomForm, told_of}
 use Rattle.container_model.proofs.Units.{lay_splices}
-use Rattle.mov_model.specs.Atoms.{atom, cell_of, atoms_in}
-use Rattle.mov_model.specs.User.{user_items, udta}
-use Rattle.mov_model.specs.Tables.{tables, places}
+use Rattle.mov_model.specs.Atoms.{cell_of}
+use Rattle.container_model.specs.Atoms.{atom, atoms_in}
+use Rattle.qt_text.specs.User.{user_items, udta}
+use Rattle.mov_model.specs.Tables.{tables}
+use Rattle.sample_tables.specs.Tables.{places}
 use Rattle.mov_model.specs.Carried.{carried}
 use Rattle.mov_model.specs.Movie.{Movie, all_atoms, movie_of}
 use Rattle.mov_model.specs.New.{padding, fill, gaps_of, grown, pieces_of, is_open, rest_behind, whole_pieces, ends_file, kids_at, edit_cuts, new_movie}

@@ -9,9 +9,11 @@ use Rattle.container_model.specs.Units.{solids}
 use Rattle.container_model.specs.Walk.{Step, chunk_at, end_at, body_at, walk, nested}
 use Rattle.container_model.proofs.Items.{same_true}
 use Rattle.container_model.proofs.Walk.{OfLeaf, Sound, sound_from, sound_to, walk_nested, nested_leaves}
-use Rattle.mov_model.specs.Atoms.{Place, file, user_data, moov, trak, mdia, minf, stbl, dinf, is, is_listed, opens, format, is_padding}
-use Rattle.mov_model.specs.User.{udta}
-use Rattle.mov_model.specs.Tables.{in_stbl, in_dinf, tables, references, is_short_table, is_other_offsets, is_short_reference, is_external}
+use Rattle.mov_model.specs.Atoms.{Place, file, user_data, moov, trak, mdia, minf, stbl, dinf, opens, format, is_padding}
+use Rattle.container_model.specs.Atoms.{is, is_listed}
+use Rattle.qt_text.specs.User.{udta}
+use Rattle.mov_model.specs.Tables.{in_stbl, in_dinf, tables, references}
+use Rattle.sample_tables.specs.Tables.{is_short_table, is_other_offsets, is_short_reference, is_external}
 use Rattle.mov_model.specs.Parts.{first_user, track_of}
 use Rattle.mov_model.specs.Reading.{row, kid_steps, inside_steps, atoms_met, names, names_of, no_twice}
 use Rattle.mov_model.specs.Support.{is_refused}
@@ -19,7 +21,8 @@ use Rattle.mov_model.specs.Why.{moov_id, met_user}
 use Rattle.mov_model.proofs.Again.{first_solid, all_strip, strip}
 use Rattle.mov_model.proofs.Clauses.{all_tracks, all_solids}
 use Rattle.mov_model.proofs.Parts.{udta_no_trak}
-use Rattle.mov_model.proofs.Steps.{Good, back, good_parts, parts_good, met_both, met_back, met_row, listed_back, guard, guarded, stop_ends, bad_none, user_good, good_user, low_prefix, AtomFine, StepFine, step_names, track_good, good_track, inner, walk_kid, inner_track, track_ids}
+use Rattle.mov_model.proofs.Steps.{Good, back, good_parts, parts_good, met_both, met_back, met_row, listed_back, bad_none, user_good, good_user, low_prefix, AtomFine, StepFine, step_names, track_good, good_track, inner, walk_kid, inner_track, track_ids}
+use Rattle.container_model.proofs.Tests.{guard, guarded, stop_ends}
 
 -- ---- one atom of moov
 

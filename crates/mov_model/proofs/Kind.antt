@@ -8,7 +8,7 @@ use Rattle.std.proofs.lemmas.List.{length-append, take_at, drop_at, drop-append-
 use Rattle.std.proofs.lemmas.Nat.{from_be_bytes-to_be_bytes_4}
 use Rattle.std.specs.List.{list_any}
 use Rattle.part_tree.specs.Kinds.{is_form_of, is_movie, movie_types}
-use Rattle.part_tree.specs.declared.names.Kind.TheVariants.{Wave, Rf64, Avi, Mov}
+use Rattle.part_tree.specs.declared.names.Kind.TheVariants.{Wave, Rf64, Bw64, Avi, Mov}
 use Rattle.container_model.specs.Chunk.{Form, riff, wide, short, long, to_end, header_bytes, Chunk, spell}
 use Rattle.container_model.specs.Sizes.{top}
 use Rattle.container_model.proofs.Items.{same_true}
@@ -68,38 +68,40 @@ other_word n k w le e lt = go (bytes_eq (to_be_bytes w32 n) w) refl
 
 -- a word that begins no form
 abbrev NoForm : List ℕ → Type 0
-NoForm w = (bytes_eq w (codes "RIFF") ≡ false) × (bytes_eq w (codes "RF64") ≡ false)
+NoForm w = (bytes_eq w (codes "RIFF") ≡ false) × (bytes_eq w (codes "RF64") ≡ false) × (bytes_eq w (codes "BW64") ≡ false)
 
 no_form : (n : ℕ) → n ≤ 2 ^ 26 → NoForm (to_be_bytes w32 n)
-no_form n le = (other_word n 1380533830 (codes "RIFF") le refl (omega arith), other_word n 1380333108 (codes "RF64") le refl (omega arith))
+no_form n le = (other_word n 1380533830 (codes "RIFF") le refl (omega arith), other_word n 1380333108 (codes "RF64") le refl (omega arith), other_word n 1113011764 (codes "BW64") le refl (omega arith))
 
 small_word : (form : Form) (n : ℕ) → AtomForm form → (form ≡ short → n + 8 ≤ 2 ^ 26) → NoForm (word form n)
 small_word form n (inl e) le = subst (λ (g : Form). NoForm (word g n)) (sym e) (no_form (n + 8) (le e))
 small_word form n (inr (inl e)) le = subst (λ (g : Form). NoForm (word g n)) (sym e) (no_form 1 (omega arith))
 small_word form n (inr (inr e)) le = subst (λ (g : Form). NoForm (word g n)) (sym e) (no_form 0 (omega arith))
 
--- no form of RIFF or RF64 that is another kind
+-- no form of RIFF, RF64 or BW64 that is another kind
 record IsOther (b : List ℕ) : Type 0 where
   wave : is_form_of (codes "RIFF") (codes "WAVE") b ≡ false
   rf64 : is_form_of (codes "RF64") (codes "WAVE") b ≡ false
+  bw64 : is_form_of (codes "BW64") (codes "WAVE") b ≡ false
   avi : is_form_of (codes "RIFF") (codes "AVI ") b ≡ false
 
 movie_by : (b : List ℕ) → IsOther b → is_movie b ≡ true → begins_movie b ≡ true
-movie_by b f t = rw (f.wave, f.rf64, f.avi, t) refl
+movie_by b f t = rw (f.wave, f.rf64, f.bw64, f.avi, t) refl
 
 movie_parts : (b : List ℕ) → begins_movie b ≡ true → IsOther b × (is_movie b ≡ true)
-movie_parts b h = go (is_form_of (codes "RIFF") (codes "WAVE") b) (is_form_of (codes "RF64") (codes "WAVE") b) (is_form_of (codes "RIFF") (codes "AVI ") b) (is_movie b) refl refl refl refl h
+movie_parts b h = go (is_form_of (codes "RIFF") (codes "WAVE") b) (is_form_of (codes "RF64") (codes "WAVE") b) (is_form_of (codes "BW64") (codes "WAVE") b) (is_form_of (codes "RIFF") (codes "AVI ") b) (is_movie b) refl refl refl refl refl h
   where
-    go : (t u v w : Bool) → is_form_of (codes "RIFF") (codes "WAVE") b ≡ t → is_form_of (codes "RF64") (codes "WAVE") b ≡ u → is_form_of (codes "RIFF") (codes "AVI ") b ≡ v → is_movie b ≡ w
-        → is_mov (cond t (Some Wave) (cond u (Some Rf64) (cond v (Some Avi) (cond w (Some Mov) None)))) ≡ true → IsOther b × (is_movie b ≡ true)
-    go true u v w a c d k h = absurd cc
-    go false true v w a c d k h = absurd cc
-    go false false true w a c d k h = absurd cc
-    go false false false true a c d k h = (record { wave = a; rf64 = c; avi = d }, k)
-    go false false false false a c d k h = absurd cc
+    go : (t u x v w : Bool) → is_form_of (codes "RIFF") (codes "WAVE") b ≡ t → is_form_of (codes "RF64") (codes "WAVE") b ≡ u → is_form_of (codes "BW64") (codes "WAVE") b ≡ x → is_form_of (codes "RIFF") (codes "AVI ") b ≡ v → is_movie b ≡ w
+        → is_mov (cond t (Some Wave) (cond u (Some Rf64) (cond x (Some Bw64) (cond v (Some Avi) (cond w (Some Mov) None))))) ≡ true → IsOther b × (is_movie b ≡ true)
+    go true u x v w a c y d k h = absurd cc
+    go false true x v w a c y d k h = absurd cc
+    go false false true v w a c y d k h = absurd cc
+    go false false false true w a c y d k h = absurd cc
+    go false false false false true a c y d k h = (record { wave = a; rf64 = c; bw64 = y; avi = d }, k)
+    go false false false false false a c y d k h = absurd cc
 
 other_by : (b : List ℕ) → NoForm (take 4 b) → IsOther b
-other_by b n = record { wave = rw n.0 refl; rf64 = rw n.1 refl; avi = rw n.0 refl }
+other_by b n = record { wave = rw n.0 refl; rf64 = rw n.1 refl; bw64 = rw n.2 refl; avi = rw n.0 refl }
 
 small_other : (c : Chunk) (more : List ℕ) → AtomForm c.form → (c.form ≡ short → length c.body + 8 ≤ 2 ^ 26) → IsOther (spell c ++ more)
 small_other c more form le = other_by (spell c ++ more) (subst NoForm (sym (first_word c more form)) (small_word c.form (length c.body) form le))
@@ -142,5 +144,6 @@ same_first c more other a h =
     go (inr le) = record {
       wave = same_form (codes "RIFF") (codes "WAVE") le ∙ old.0.wave;
       rf64 = same_form (codes "RF64") (codes "WAVE") le ∙ old.0.rf64;
+      bw64 = same_form (codes "BW64") (codes "WAVE") le ∙ old.0.bw64;
       avi = same_form (codes "RIFF") (codes "AVI ") le ∙ old.0.avi;
     }

@@ -14,18 +14,19 @@ use Rattle.container_model.specs.Rows.{be32, be64}
 use Rattle.container_model.specs.Splice.{shift}
 use Rattle.mov_model.proofs.Edited.{edited_law, new_nothing}
 use Rattle.mov_model.proofs.Parts.{placed_nothing}
-use Rattle.mov_model.specs.Atoms.{is}
+use Rattle.container_model.specs.Atoms.{is}
 use Rattle.mov_model.proofs.Fits.{EditedBy, Fits, UserItems}
 use Rattle.mov_model.specs.Kept.{Node, kept, nodes}
 use Rattle.mov_model.specs.Large.{all_sizes, row_sizes, table_sizes, size_passed, user_sizes}
-use Rattle.carrier_model.specs.Large.{Size, limited, is_above, first_above}
+use Rattle.part_tree.specs.Large.{Size, limited, is_above, first_above}
 use Rattle.mov_model.specs.Carried.{fresh, has_carrier}
 use Rattle.mov_model.specs.Movie.{Movie, movie_of}
 use Rattle.mov_model.specs.New.{edit_cuts, edited_file}
 use Rattle.mov_model.specs.Parts.{first_user, parts, tracks}
 use Rattle.mov_model.specs.Support.{Supported}
-use Rattle.mov_model.specs.Tables.{FitsRows, rows, tables}
-use Rattle.mov_model.specs.User.{udta, user_items}
+use Rattle.mov_model.specs.Tables.{tables}
+use Rattle.sample_tables.specs.Tables.{FitsRows, rows}
+use Rattle.qt_text.specs.User.{udta, user_items}
 
 abbrev pub Within : List Size → Type 0
 Within ss = AllByRecursion (λ (s : Size). s.size ≤ s.limit) ss

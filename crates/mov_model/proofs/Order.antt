@@ -16,13 +16,13 @@ use Rattle.container_model.specs.Sizes.{inside}
 use Rattle.container_model.specs.Units.{Cell, kept, gap, edited, live, lacks_pad, is_empty, kept_next, Piece, copied, replaced, Slot, shut, begun, closed, units, Fill, lay}
 use Rattle.container_model.proofs.Read.{Atom, AtomForm}
 use Rattle.mov_model.specs.Atoms.{cell_by, cell_of, is_padding}
-use Rattle.mov_model.specs.User.{user_items, udta}
+use Rattle.qt_text.specs.User.{user_items, udta}
 use Rattle.mov_model.specs.Carried.{first_cell, add_last, only_gaps, add_new, fresh, carry_by, carried, has_carrier}
 use Rattle.mov_model.specs.Movie.{Movie, movie_of}
 use Rattle.mov_model.specs.New.{fill, gaps_of, grown, pieces_of, is_open, whole_pieces, ends_file, kids_at, new_movie}
 use Rattle.mov_model.specs.Support.{Supported}
 use Rattle.mov_model.specs.Edited.{changes, new_file}
-use Rattle.carrier_model.specs.Order.{SoundPatches}
+use Rattle.part_tree.specs.Order.{SoundPatches}
 use Rattle.carrier_model.specs.Room.{patch, unit_patch, unit_patches}
 use Rattle.carrier_model.proofs.Patches.{one_patch, order_low, order_patch, touches_behind}
 use Rattle.carrier_model.proofs.Fitted.{fitting_length, units_cover, units_in_order}

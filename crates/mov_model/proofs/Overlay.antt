@@ -12,10 +12,11 @@ use Rattle.container_model.specs.Cuts.{changed_piece}
 use Rattle.container_model.specs.Items.{Item, edit_carrier, put_all}
 use Rattle.container_model.specs.Units.{Cell, Piece, Slot, begun, closed, copied, cuts, edited, gap, is_empty, kept, kept_next, lacks_pad, lay, old_bytes, padded, replaced, shut, unit_bytes, units, was}
 use Rattle.carrier_model.proofs.Fitted.{LastOnly}
-use Rattle.mov_model.specs.Atoms.{atom, cell_by, cell_of, is, is_padding}
+use Rattle.mov_model.specs.Atoms.{cell_by, cell_of, is_padding}
+use Rattle.container_model.specs.Atoms.{atom, is}
 use Rattle.mov_model.specs.Carried.{add_last, add_new, carried, carry_by, first_cell, fresh, has_carrier, only_gaps}
 use Rattle.mov_model.specs.New.{ends_open, fill, grown, hanging, padding}
-use Rattle.mov_model.specs.User.{udta, user_items}
+use Rattle.qt_text.specs.User.{udta, user_items}
 
 module _ (g : Chunk → Chunk) where
   -- copied chunks keep their length, and nothing in a unit is changed

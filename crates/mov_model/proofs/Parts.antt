@@ -12,13 +12,14 @@ use Rattle.container_model.specs.Chunk.{Chunk, Run, ends}
 use Rattle.container_model.specs.Deep.{Token, Whole}
 use Rattle.container_model.specs.Items.{Item, edit_carrier, item_token, put_all, put_marks}
 use Rattle.mov_model.proofs.Tables.{relocated_id, relocated_other, relocated_tokens}
-use Rattle.mov_model.proofs.User.{SetsUser, all_made, edited_again, fresh_again}
-use Rattle.mov_model.specs.Atoms.{format, is, moov}
+use Rattle.qt_text.proofs.User.{SetsUser, all_made, edited_again, fresh_again}
+use Rattle.mov_model.specs.Atoms.{format, moov}
+use Rattle.container_model.specs.Atoms.{is}
 use Rattle.mov_model.specs.Kept.{Node, new_node, nodes, other, placed_nodes, plain_node, user, user_node}
 use Rattle.mov_model.specs.Carried.{edit_by, edited_chunks, first_carrier, fresh, has_carrier}
 use Rattle.mov_model.specs.Parts.{first_items, first_user, track_of}
 use Rattle.mov_model.specs.Tables.{relocated}
-use Rattle.mov_model.specs.User.{udta, user_items}
+use Rattle.qt_text.specs.User.{udta, user_items}
 
 pub udta_no_trak : (c : Chunk) → udta.is c ≡ true → is c (codes "trak") ≡ false
 udta_no_trak c u = rw (same_true c.id (codes "udta") u) refl

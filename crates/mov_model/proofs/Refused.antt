@@ -5,7 +5,8 @@ use Rattle.container_model.specs.Chunk.{read, chunks}
 use Rattle.container_model.specs.Deep.{leaves}
 use Rattle.container_model.specs.Walk.{walk}
 use Rattle.mov_model.specs.Reading.{reading}
-use Rattle.mov_model.specs.Why.{why, first, tests_from}
+use Rattle.mov_model.specs.Why.{why, tests_from}
+use Rattle.container_model.specs.Tests.{first}
 
 -- the first bytes are those of no kind
 abbrev no_movie : List ℕ

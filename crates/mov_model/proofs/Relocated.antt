@@ -24,14 +24,15 @@ use Rattle.mov_model.proofs.Laid.{grown_bytes, grown_laid}
 use Rattle.mov_model.proofs.Overlay.{Fixed, changed_brings, changed_cuts, changed_grown, changed_hanging, changed_last, changed_lay, changed_old, changed_open, fixed_carried, fixed_units, grown_fixed}
 use Rattle.mov_model.proofs.Spans.{around, last, open_left}
 use Rattle.mov_model.proofs.Tables.{relocated_alike, relocated_other}
-use Rattle.mov_model.specs.Atoms.{atom, atoms_in, cell_of, format, moov}
+use Rattle.mov_model.specs.Atoms.{cell_of, format, moov}
+use Rattle.container_model.specs.Atoms.{atom, atoms_in}
 use Rattle.mov_model.specs.Carried.{carried}
 use Rattle.mov_model.specs.Movie.{Movie, all_atoms, movie_of, spell_movie}
 use Rattle.mov_model.specs.New.{edit_cuts, ends_file, ends_open, fill, gaps_of, grown, hanging, is_open, kids_at, edited_file, new_kids, new_movie, overlaid, padding_behind, pieces_of, rest_behind, whole_pieces, with_size}
 use Rattle.mov_model.specs.Pieces.{held}
 use Rattle.mov_model.specs.Support.{Supported}
 use Rattle.mov_model.specs.Tables.{relocated}
-use Rattle.mov_model.specs.User.{udta, user_items}
+use Rattle.qt_text.specs.User.{udta, user_items}
 
 module _ (m : Movie) (e : List (Item Value)) (joined : spell_all (atoms_in m.movie).chunks ++ (atoms_in m.movie).left ≡ m.movie.body) (no_pad : m.movie.pad ≡ [])
     (fine : AllByRecursion (λ c. (lacks_pad c ≡ false) × Alike c (relocated (shift (edit_cuts m e)) c)) (atoms_in m.movie).chunks) where

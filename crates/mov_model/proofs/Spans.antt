@@ -14,11 +14,12 @@ use Rattle.mov_model.proofs.Cells.{was_carried, was_read}
 use Rattle.mov_model.proofs.Clauses.{behind_split, opened_last, whole_brings}
 use Rattle.carrier_model.proofs.Fitted.{LastOnly, last_units}
 use Rattle.mov_model.proofs.Laid.{grown_bytes, grown_laid}
-use Rattle.mov_model.specs.Atoms.{atoms_in, cell_of}
+use Rattle.mov_model.specs.Atoms.{cell_of}
+use Rattle.container_model.specs.Atoms.{atoms_in}
 use Rattle.mov_model.specs.Carried.{carried}
 use Rattle.mov_model.specs.Movie.{Movie, spell_movie}
 use Rattle.mov_model.specs.New.{edit_cuts, ends_file, fill, gaps_of, grown, hanging, is_open, kids_at, laid_kids, laid_movie, padding_behind, pieces_of, rest_behind, slot_behind, whole_pieces, with_size}
-use Rattle.mov_model.specs.User.{udta, user_items}
+use Rattle.qt_text.specs.User.{udta, user_items}
 
 nil_is : (x : List ℕ) → is_nil x ≡ true → x ≡ []
 nil_is [] e = refl

@@ -13,8 +13,9 @@ use Rattle.container_model.specs.Units.{lacks_pad, Piece, copied, replaced, shut
 use Rattle.container_model.proofs.Cuts.{CanMake, AllMake, cuts_ascend_with, lay_splices_with, units_make}
 use Rattle.container_model.proofs.Deep.{Alike}
 use Rattle.container_model.proofs.Units.{AllCells, lay_splices, spell_all-append}
-use Rattle.mov_model.specs.Atoms.{cell_of, atoms_in}
-use Rattle.mov_model.specs.User.{user_items, udta}
+use Rattle.mov_model.specs.Atoms.{cell_of}
+use Rattle.container_model.specs.Atoms.{atoms_in}
+use Rattle.qt_text.specs.User.{user_items, udta}
 use Rattle.mov_model.specs.Tables.{relocated}
 use Rattle.mov_model.specs.Carried.{fresh, carried}
 use Rattle.mov_model.specs.Movie.{Movie, spell_movie, movie_of}

@@ -1,45 +1,22 @@
 -- The tests of what is met: they fail exactly where the atoms are fine.
-use Rattle.std.proofs.Common.{◌≡◌, ℕ, zero, suc, ◌+◌, ◌^◌, ◌<◌, ◌≤◌, Bool, true, false, cond, List, [], ◌∷◌, ◌++◌, length, take, Option, Some, None, refl, sym, ap, subst, ◌∙◌, arith}
+use Rattle.std.proofs.Common.{◌≡◌, ℕ, zero, suc, ◌+◌, ◌^◌, ◌<◌, ◌≤◌, Bool, true, false, List, [], ◌∷◌, ◌++◌, length, take, Option, Some, None, refl, sym, ap, subst, ◌∙◌, arith}
 use Rattle.std.specs.Prelude.{◌&&◌, ◌||◌, not, codes}
 use Rattle.std.specs.Str.{bytes_eq}
 use Rattle.std.specs.List.{flat_map, AllByRecursion}
 use Rattle.std.proofs.lemmas.Bool.{leb-false, ltb-false, le-ltb, lt-leb}
 use Rattle.std.proofs.lemmas.List.{length-append}
 use Rattle.std.proofs.lemmas.List.Concat.{flat_map-append}
-use Rattle.container_model.specs.Chunk.{Chunk, spell, spell_all, Stop, ends, bad_header, passes, out_of_turns}
+use Rattle.container_model.specs.Chunk.{Chunk, spell, spell_all, Stop, ends}
 use Rattle.container_model.specs.Deep.{kids}
 use Rattle.container_model.specs.Items.{listed}
 use Rattle.container_model.specs.Walk.{body_at, Step, chunk_at, end_at, along, walk_at, walk, chunk_met}
 use Rattle.container_model.proofs.Walk.{OfStep, all_parts, all_join}
-use Rattle.mov_model.specs.Atoms.{Place, file, user_data, moov, trak, mdia, minf, stbl, dinf, is, is_listed, opens, format}
+use Rattle.mov_model.specs.Atoms.{Place, file, user_data, moov, trak, mdia, minf, stbl, dinf, opens, format}
+use Rattle.container_model.specs.Atoms.{is, is_listed}
 use Rattle.mov_model.specs.Reading.{row, atoms_met, once, names_of, no_twice}
-use Rattle.mov_model.specs.Why.{Test, first, moov_id, met_moov, names_met, is_twice, other_offsets, short_table, external, track_tests, atom_tests, bad_size, ended, end_tests, step_tests, tests_from}
-
--- ---- the first of several tests
-
-abbrev pub AllFalse : List Test → Type 0
-AllFalse ts = AllByRecursion (λ (t : Test). t.0 ≡ false) ts
-
-pub first_none : (ts : List Test) → first ts ≡ None → AllFalse ts
-first_none [] e = tt
-first_none (t ∷ ts) e = go t.0 refl e (first_none ts)
-  where
-    go : (b : Bool) → t.0 ≡ b → cond b (Some t.1) (first ts) ≡ None → (first ts ≡ None → AllFalse ts) → AllFalse (t ∷ ts)
-    go true i e again = absurd cc
-    go false i e again = (i, again e)
-
-pub none_first : (ts : List Test) → AllFalse ts → first ts ≡ None
-none_first [] h = refl
-none_first (t ∷ ts) h = rw h.0 (none_first ts h.1)
-
--- a test that is guarded
-pub guarded : (a b : Bool) → (a && b) ≡ false → a ≡ true → b ≡ false
-guarded true b e i = e
-guarded false b e i = absurd cc
-
-pub guard : (a b : Bool) → (a ≡ true → b ≡ false) → (a && b) ≡ false
-guard true b h = h refl
-guard false b h = refl
+use Rattle.mov_model.specs.Why.{Test, moov_id, met_moov, names_met, is_twice, other_offsets, short_table, external, track_tests, atom_tests, bad_size, end_tests, step_tests, tests_from}
+use Rattle.container_model.specs.Tests.{ended}
+use Rattle.container_model.proofs.Tests.{AllFalse, guarded, guard, stop_ends}
 
 pub not_false : (t : Bool) → not t ≡ false → t ≡ true
 not_false true e = refl
@@ -47,12 +24,6 @@ not_false false e = absurd cc
 
 pub false_not : (t : Bool) → t ≡ true → not t ≡ false
 false_not t e = rw e refl
-
-pub stop_ends : (stop : Stop) → not (ended stop) ≡ false → stop ≡ ends
-stop_ends ends e = refl
-stop_ends bad_header e = absurd cc
-stop_ends passes e = absurd cc
-stop_ends out_of_turns e = absurd cc
 
 -- ---- one step after the other
 

@@ -21,9 +21,11 @@ use Rattle.container_model.proofs.Read.{Atom}
 use Rattle.container_model.proofs.Rows.{Spells, be32_spells, be64_spells, changed_same}
 use Rattle.container_model.proofs.Units.{AllCells, lay_all}
 use Rattle.container_model.proofs.Walk.{StillLeaf, all_parts, mend_still}
-use Rattle.mov_model.specs.Atoms.{Place, file, user_data, moov, trak, mdia, minf, stbl, dinf, is, format, is_padding, cell_of, atoms_in, when}
-use Rattle.mov_model.specs.User.{user_items, udta}
-use Rattle.mov_model.specs.Tables.{count, rows, with_rows, places_in, moved_body, moved_leaf, relocated, in_stbl, tables, places}
+use Rattle.mov_model.specs.Atoms.{Place, file, user_data, moov, trak, mdia, minf, stbl, dinf, format, is_padding, cell_of, when}
+use Rattle.container_model.specs.Atoms.{is, atoms_in}
+use Rattle.qt_text.specs.User.{user_items, udta}
+use Rattle.mov_model.specs.Tables.{moved_leaf, relocated, in_stbl, tables}
+use Rattle.sample_tables.specs.Tables.{count, rows, with_rows, places_in, moved_body, places}
 use Rattle.mov_model.specs.Carried.{fresh, carried}
 use Rattle.mov_model.specs.Movie.{Movie, movie_of}
 use Rattle.mov_model.specs.New.{fill, pieces_of, is_open, laid_movie, laid_kids, new_kids, new_movie, edit_cuts, edited_file}
@@ -125,8 +127,8 @@ module _ (f : ℕ → ℕ) where
   fresh_stay [] = tt
   fresh_stay (c ∷ cs) = ((relocated_other f (udta.fresh (c ∷ cs)) refl, (refl, λ n. refl)), tt)
 
-  free_stays : (body : List ℕ) → Stays (Rattle.mov_model.specs.Atoms.atom (codes "free") body)
-  free_stays body = (relocated_other f (Rattle.mov_model.specs.Atoms.atom (codes "free") body) refl, (refl, λ n. refl))
+  free_stays : (body : List ℕ) → Stays (Rattle.container_model.specs.Atoms.atom (codes "free") body)
+  free_stays body = (relocated_other f (Rattle.container_model.specs.Atoms.atom (codes "free") body) refl, (refl, λ n. refl))
 
   padded_stays : (c : Chunk) → Stays c → Stays (padded c)
   padded_stays c h =

@@ -17,9 +17,11 @@ use Rattle.mov_model.proofs.Again.{at_moov, before_read, file_again, file_bytes,
 use Rattle.mov_model.proofs.Clauses.{all_tracks, behind_solids, held_again, new_parts, new_tracks, parts_whole, user_whole}
 use Rattle.mov_model.proofs.Kind.{moov_first, same_first}
 use Rattle.mov_model.proofs.Parts.{KidWhole, UserWhole, first_user_relocated, has_relocated, udta_no_trak}
-use Rattle.mov_model.proofs.Tables.{all_long, others_all, places_moved, relocated_id, relocated_names, relocated_references, relocated_tables, relocated_whole, short_all}
-use Rattle.mov_model.proofs.User.{edited_again, fresh_again}
-use Rattle.mov_model.specs.Atoms.{format, is, is_padding, moov}
+use Rattle.mov_model.proofs.Tables.{relocated_id, relocated_names, relocated_references, relocated_tables, relocated_whole}
+use Rattle.sample_tables.proofs.Moved.{all_long, others_all, places_moved, short_all}
+use Rattle.qt_text.proofs.User.{edited_again, fresh_again}
+use Rattle.mov_model.specs.Atoms.{format, is_padding, moov}
+use Rattle.container_model.specs.Atoms.{is}
 use Rattle.mov_model.proofs.Fits.{Fits, UserItems}
 use Rattle.mov_model.specs.Kind.{begins_movie}
 use Rattle.mov_model.specs.Carried.{edit_by, edited_chunks, first_carrier, fresh, has_carrier}
@@ -27,8 +29,9 @@ use Rattle.mov_model.specs.Movie.{Movie, all_atoms, spell_movie}
 use Rattle.mov_model.specs.Parts.{first_user, has_id, parts, tracks}
 use Rattle.mov_model.specs.Reading.{no_twice}
 use Rattle.mov_model.specs.Support.{IsHeld, MovieFine, Supported, TrackFine, is_refused}
-use Rattle.mov_model.specs.Tables.{FitsRows, places, relocated, tables}
-use Rattle.mov_model.specs.User.{udta, user_items}
+use Rattle.mov_model.specs.Tables.{relocated, tables}
+use Rattle.sample_tables.specs.Tables.{FitsRows, places}
+use Rattle.qt_text.specs.User.{udta, user_items}
 
 -- ---- what holds of each atom of moov after an edit
 

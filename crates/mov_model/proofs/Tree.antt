@@ -18,12 +18,15 @@ use Rattle.container_model.proofs.Moved.{atom_moves}
 use Rattle.container_model.proofs.Rows.{Spells, be32_spells, be64_spells, changed_spelled, spelled_len}
 use Rattle.container_model.proofs.Units.{From, From-low, splice_past}
 use Rattle.container_model.proofs.Walk.{OfLeaf, Sound, all_parts}
-use Rattle.mov_model.specs.Atoms.{Place, file, user_data, moov, trak, mdia, minf, stbl, dinf, is, opens, format}
-use Rattle.mov_model.specs.Tables.{count, rows, with_rows, is_short_table, moved_body, moved_leaf, relocated}
+use Rattle.mov_model.specs.Atoms.{Place, file, user_data, moov, trak, mdia, minf, stbl, dinf, opens, format}
+use Rattle.container_model.specs.Atoms.{is}
+use Rattle.mov_model.specs.Tables.{moved_leaf, relocated}
+use Rattle.sample_tables.specs.Tables.{count, rows, with_rows, is_short_table, moved_body}
 use Rattle.mov_model.specs.Cuts.{kid_cuts, step_cuts, table_cut, table_of, tables_at}
 use Rattle.mov_model.proofs.Kids.{KidOk}
 use Rattle.mov_model.proofs.Steps.{AtomFine, low_prefix}
-use Rattle.mov_model.proofs.Tables.{LongRows, long_rows, keeps, relocated_other}
+use Rattle.mov_model.proofs.Tables.{keeps, relocated_other}
+use Rattle.sample_tables.proofs.Moved.{LongRows, long_rows}
 
 module _ (f : ℕ → ℕ) where
   -- ---- nothing is replaced, or the rows of a table

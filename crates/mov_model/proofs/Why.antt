@@ -7,9 +7,11 @@ use Rattle.container_model.specs.Units.{solids}
 use Rattle.container_model.specs.Walk.{Step, end_at}
 use Rattle.container_model.proofs.Items.{same_true}
 use Rattle.container_model.proofs.Walk.{all_parts, all_join}
-use Rattle.mov_model.specs.Atoms.{Place, file, moov, is, is_listed, is_padding, atoms_in}
+use Rattle.mov_model.specs.Atoms.{Place, file, moov, is_padding}
+use Rattle.container_model.specs.Atoms.{is, is_listed, atoms_in}
 use Rattle.mov_model.specs.Kind.{begins_movie}
-use Rattle.mov_model.specs.Tables.{tables, places}
+use Rattle.mov_model.specs.Tables.{tables}
+use Rattle.sample_tables.specs.Tables.{places}
 use Rattle.mov_model.specs.Movie.{Movie, split_by, split, all_atoms, top_run, movie_of}
 use Rattle.mov_model.specs.Parts.{parts, has_id, tracks, first_user}
 use Rattle.mov_model.specs.Pieces.{held}
@@ -17,7 +19,8 @@ use Rattle.mov_model.specs.Reading.{row, inside_steps, inside_at, moov_steps, re
 use Rattle.mov_model.specs.Support.{IsHeld, TrackFine, Supported}
 use Rattle.mov_model.specs.Why.{Test, file_id, moov_id, met_moov, met_user, tests_from, is_none, place_tests, chunk_tests, tests, why}
 use Rattle.mov_model.proofs.Again.{split_whole}
-use Rattle.mov_model.proofs.Steps.{AllFalse, first_none, none_first, not_false, false_not, stop_ends, bad_none, back, good_parts, parts_good, met_both, met_back, met_row, listed_back, FileFine, file_good, good_file}
+use Rattle.mov_model.proofs.Steps.{not_false, false_not, bad_none, back, good_parts, parts_good, met_both, met_back, met_row, listed_back, FileFine, file_good, good_file}
+use Rattle.container_model.proofs.Tests.{AllFalse, first_none, none_first, stop_ends}
 use Rattle.mov_model.proofs.Kids.{TrackOk, UserOk, KidsAre, kids_good, good_kids, kids_are, are_kids}
 
 -- ---- moov among the atoms of the file
@@ -140,11 +143,11 @@ tracks_to atoms (t ∷ ts) h =
     let r = tracks_to atoms ts h.1 in
     ((record { once = h.0.once; no_other_offsets = h.0.no_other_offsets; long_tables = h.0.long_tables; long_references = h.0.long_references; local = h.0.local }, r.0), (h.0.chunks_inside, r.1))
 
-user_from : (cs : List Chunk) → AllByRecursion UserOk cs → AllByRecursion (λ c. (Rattle.mov_model.specs.User.udta.opening c).stop ≡ ends) cs × AllByRecursion (λ c. length c.body ≤ 2 ^ 24) cs
+user_from : (cs : List Chunk) → AllByRecursion UserOk cs → AllByRecursion (λ c. (Rattle.qt_text.specs.User.udta.opening c).stop ≡ ends) cs × AllByRecursion (λ c. length c.body ≤ 2 ^ 24) cs
 user_from [] h = (tt, tt)
 user_from (c ∷ cs) h = let r = user_from cs h.1 in ((h.0.1, r.0), (h.0.0, r.1))
 
-user_to : (cs : List Chunk) → AllByRecursion (λ c. (Rattle.mov_model.specs.User.udta.opening c).stop ≡ ends) cs → AllByRecursion (λ c. length c.body ≤ 2 ^ 24) cs → AllByRecursion UserOk cs
+user_to : (cs : List Chunk) → AllByRecursion (λ c. (Rattle.qt_text.specs.User.udta.opening c).stop ≡ ends) cs → AllByRecursion (λ c. length c.body ≤ 2 ^ 24) cs → AllByRecursion UserOk cs
 user_to [] h g = tt
 user_to (c ∷ cs) h g = ((g.0, h.0), user_to cs h.1 g.1)
 

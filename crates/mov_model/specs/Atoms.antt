@@ -1,7 +1,7 @@
 -- The atoms that are opened, and padding (QuickTime File Format, atoms; what is opened is this project's own).
-use Rattle.std.specs.Prelude.{Bool, List, None, Option, Some, [], codes, false, true, ℕ, ◌||◌, ◌∷◌}
+use Rattle.std.specs.Prelude.{Bool, List, None, Option, Some, codes, false, true, ℕ, ◌||◌}
 use Rattle.std.specs.Str.{bytes_eq}
-use Rattle.container_model.specs.Chunk.{Chunk, Run, chunks, short}
+use Rattle.container_model.specs.Chunk.{Chunk}
 use Rattle.container_model.specs.Deep.{Format}
 use Rattle.container_model.specs.Sizes.{Level, atom_front, inside}
 use Rattle.container_model.specs.Units.{Cell, gap, kept}
@@ -16,10 +16,6 @@ pub data Place : Type 0 where
   minf : Place
   stbl : Place
   dinf : Place
-
--- whether an atom has this type
-abbrev pub is : Chunk → List ℕ → Bool
-is c id = bytes_eq c.id id
 
 -- a place where a test holds
 abbrev pub when : Bool → Place → Option Place
@@ -55,16 +51,3 @@ cell_by c false = kept c
 -- an atom of moov, before an edit
 abbrev pub cell_of : Chunk → Cell
 cell_of c = cell_by c (is_padding c.id)
-
--- whether a type is in a list of types
-abbrev pub is_listed : List ℕ → List (List ℕ) → Bool
-is_listed x [] = false
-is_listed x (y ∷ ys) = bytes_eq y x || is_listed x ys
-
--- a new atom has the short form
-abbrev pub atom : List ℕ → List ℕ → Chunk
-atom id body = record { form = short; id = id; body = body; pad = [] }
-
--- the atoms in an atom
-abbrev pub atoms_in : Chunk → Run
-atoms_in c = chunks atom_front inside c.body

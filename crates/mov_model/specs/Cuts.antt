@@ -10,8 +10,10 @@ use Rattle.container_model.specs.Items.{Item}
 use Rattle.container_model.specs.Rows.{Width, be32, be64, spelled}
 use Rattle.container_model.specs.Splice.{Cut, shift}
 use Rattle.container_model.specs.Walk.{Step, chunk_at, end_at, body_at, walk}
-use Rattle.mov_model.specs.Atoms.{Place, moov, stbl, is, format}
-use Rattle.mov_model.specs.Tables.{count, places, rows, tables}
+use Rattle.mov_model.specs.Atoms.{Place, moov, stbl, format}
+use Rattle.container_model.specs.Atoms.{is}
+use Rattle.mov_model.specs.Tables.{tables}
+use Rattle.sample_tables.specs.Tables.{count, places, rows}
 use Rattle.mov_model.specs.Movie.{Movie, movie_of}
 use Rattle.mov_model.specs.New.{edit_cuts, fill, whole_pieces, ends_file, kids_at, new_movie}
 use Rattle.mov_model.specs.Parts.{tracks}

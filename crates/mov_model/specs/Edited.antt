@@ -1,10 +1,10 @@
 -- What the new file is to the old one.
-use Rattle.std.specs.Prelude.{if◌then◌else◌, List, [], ◌∷◌, ℕ, ◌≡◌, Option}
-use Rattle.std.specs.List.{flat_map}
+use Rattle.std.specs.Prelude.{if◌then◌else◌, Bool, true, false, List, [], ◌∷◌, ℕ, ◌≡◌, Option}
+use Rattle.std.specs.List.{flat_map, list_any}
 use Rattle.part_tree.specs.Names.{IsFieldName, is_user_type}
 use Rattle.part_tree.specs.declared.field.EditItem.{EditItem}
 use Rattle.part_tree.specs.declared.field.FieldName.{FieldName}
-use Rattle.part_tree.specs.declared.field.FieldName.TheVariants.{User}
+use Rattle.part_tree.specs.declared.field.FieldName.TheVariants.{User, Key}
 use Rattle.part_tree.specs.declared.field.Value.{Value}
 use Rattle.field_model.specs.Fields.{FieldMap}
 use Rattle.field_model.specs.Update.{RawItem, effective, raw_items, update}
@@ -15,7 +15,7 @@ use Rattle.mov_model.specs.New.{edited_file}
 use Rattle.mov_model.specs.Parts.{first_items, parts}
 use Rattle.mov_model.specs.Pieces.{pieces}
 use Rattle.mov_model.specs.Support.{Supported}
-use Rattle.mov_model.specs.User.{user_items}
+use Rattle.qt_text.specs.User.{user_items}
 
 -- the fields of a movie: the texts of its user items by their types
 abbrev pub fields : List ℕ → FieldMap
@@ -26,6 +26,15 @@ fields b name = []
 abbrev pub user_item : FieldName → Option Value → List (Item Value)
 user_item (User id) value = if is_user_type id.0 then record { name = id.0; value = value } ∷ [] else []
 user_item name value = []
+
+-- whether an item names a key; no law speaks of such an edit yet
+abbrev pub names_key : FieldName → Bool
+names_key (Key name) = true
+names_key name = false
+
+-- whether some item of an edit names a key
+abbrev pub sets_keys : List EditItem → Bool
+sets_keys e = list_any (λ i. names_key i.name) e
 
 -- the items of the user data, in order
 abbrev pub user_edit : List RawItem → List (Item Value)

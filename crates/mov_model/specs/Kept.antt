@@ -1,29 +1,21 @@
 -- What an edit keeps of a movie, in order, and where it puts the items of the user data (this project's own).
-use Rattle.std.specs.Prelude.{List, [], codes, drop, if◌then◌else◌, map, replicate, take, ℕ, ◌*◌, ◌++◌, ◌+◌, ◌∷◌}
+use Rattle.std.specs.Prelude.{List, [], if◌then◌else◌, map, ℕ, ◌∷◌}
 use Rattle.part_tree.specs.declared.field.Value.{Value}
 use Rattle.container_model.specs.Chunk.{Chunk, Form, short}
 use Rattle.container_model.specs.Deep.{Token, leaf, tokens}
 use Rattle.container_model.specs.Items.{Item, item_token, put_marks}
-use Rattle.container_model.specs.Rows.{Width, be32, be64}
+use Rattle.sample_tables.specs.Tables.{look_table}
 use Rattle.container_model.specs.Units.{solids}
-use Rattle.mov_model.specs.Atoms.{Place, atoms_in, format, is, is_padding, moov, stbl}
+use Rattle.mov_model.specs.Atoms.{Place, format, is_padding, moov, stbl}
+use Rattle.container_model.specs.Atoms.{atoms_in}
 use Rattle.mov_model.specs.Movie.{Movie, movie_of}
 use Rattle.mov_model.specs.Parts.{parts}
-use Rattle.mov_model.specs.Tables.{count}
-use Rattle.mov_model.specs.User.{udta, user_items}
+use Rattle.qt_text.specs.User.{udta, user_items}
 
 -- an atom of moov, or the user data with its items and its rest
 pub data Node : Type 0 where
   other : List Token → Node
   user : Form → List Token → List ℕ → Node
-
--- tables are looked at with zeros in the places
-abbrev pub blank_rows : Width → Chunk → List ℕ
-blank_rows w c = take 8 c.body ++ (replicate (w.bytes * count c) 0 ++ drop (8 + w.bytes * count c) c.body)
-
--- a table of chunk places, with zeros for its rows
-abbrev pub look_table : Chunk → List ℕ
-look_table c = if is c (codes "stco") then blank_rows be32 c else (if is c (codes "co64") then blank_rows be64 c else c.body)
 
 -- what is looked at in a leaf: tables stand in stbl
 abbrev pub look : Place → Chunk → List ℕ

@@ -2,21 +2,22 @@
 use Rattle.std.specs.Prelude.{List, None, Option, [], codes, if◌then◌else◌, length, map, ℕ, ◌++◌, ◌^◌, ◌∷◌}
 use Rattle.std.specs.List.{flat_map}
 use Rattle.part_tree.specs.declared.field.EditItem.{EditItem}
-use Rattle.carrier_model.specs.Large.{Size, limited, first_above}
+use Rattle.part_tree.specs.Large.{Size, limited, first_above}
 use Rattle.mov_model.specs.Edited.{changes}
 use Rattle.part_tree.specs.declared.field.Value.{Value}
 use Rattle.container_model.specs.Chunk.{Chunk, spell}
 use Rattle.container_model.specs.Items.{Item, edit_carrier, put_all}
 use Rattle.container_model.specs.Rows.{be32, be64}
 use Rattle.container_model.specs.Splice.{shift}
-use Rattle.mov_model.specs.Atoms.{is}
+use Rattle.container_model.specs.Atoms.{is}
 use Rattle.mov_model.specs.Carried.{fresh, has_carrier}
 use Rattle.mov_model.specs.Movie.{Movie, movie_of, spell_movie}
 use Rattle.mov_model.specs.New.{edit_cuts, new_movie}
 use Rattle.mov_model.specs.Parts.{first_user, parts, tracks}
 use Rattle.mov_model.specs.Reading.{count_parts}
-use Rattle.mov_model.specs.Tables.{rows, tables}
-use Rattle.mov_model.specs.User.{udta, user_items}
+use Rattle.mov_model.specs.Tables.{tables}
+use Rattle.sample_tables.specs.Tables.{rows}
+use Rattle.qt_text.specs.User.{udta, user_items}
 
 -- the body of the user data, edited or new
 abbrev pub user_sizes : Movie → List (Item Value) → List Size

@@ -1,5 +1,5 @@
 -- What a reader tells of a movie: its parts with their roles, its user data, its essence and the tables of its tracks.
-use Rattle.std.specs.Prelude.{ℕ, ◌+◌, List, [], ◌∷◌, ◌++◌, length, Bool, true, false, ◌&&◌, ◌||◌, not, codes, Option, Some, None, if◌then◌else◌}
+use Rattle.std.specs.Prelude.{ℕ, ◌+◌, List, [], ◌∷◌, ◌++◌, length, map, take, drop, Bool, true, false, ◌&&◌, ◌||◌, not, codes, Option, Some, None, if◌then◌else◌}
 use Rattle.std.specs.List.{flat_map}
 use Rattle.part_tree.specs.Letters.{four}
 use Rattle.part_tree.specs.declared.names.Span.{Span}
@@ -7,9 +7,11 @@ use Rattle.part_tree.specs.declared.part.Part.{Part}
 use Rattle.part_tree.specs.declared.part.Role.{Role}
 use Rattle.part_tree.specs.declared.part.Role.TheVariants.{Opaque, Padding, Tables, UserData, Essence}
 use Rattle.container_model.specs.Chunk.{Chunk, spell}
-use Rattle.container_model.specs.Walk.{Step, chunk_at, end_at, body_at, along, walk}
-use Rattle.mov_model.specs.Atoms.{Place, file, moov, stbl, is, is_padding, format, atoms_in}
-use Rattle.mov_model.specs.User.{udta}
+use Rattle.container_model.specs.Walk.{Step, chunk_at, chunk_met, end_at, body_at, along, walk}
+use Rattle.container_model.specs.Deep.{Leaf}
+use Rattle.mov_model.specs.Atoms.{Place, file, moov, stbl, is_padding, format}
+use Rattle.container_model.specs.Atoms.{is, atoms_in}
+use Rattle.qt_text.specs.User.{udta}
 use Rattle.mov_model.specs.Movie.{Movie, movie_of}
 use Rattle.mov_model.specs.Pieces.{is_mdat}
 use Rattle.mov_model.specs.Reading.{inside_at, reading}
@@ -65,6 +67,26 @@ essence_at s = []
 -- the bodies of the mdats, in file order
 abbrev pub essence : List ℕ → List Span
 essence b = flat_map essence_at (reading b)
+
+-- ---- what stands at the spans that are told
+
+-- the bytes of a file at a span
+abbrev pub bytes_in : List ℕ → Span → List ℕ
+bytes_in b s = take s.len (drop s.at b)
+
+-- the bodies of the atoms that are met
+abbrev pub met_bodies : List ℕ → List (List ℕ)
+met_bodies b = map (λ (l : Leaf Place). l.chunk.body) (flat_map chunk_met (reading b))
+
+-- the body of an mdat that is met
+abbrev pub essence_met : Step Place → List (List ℕ)
+essence_met (chunk_at file at c) = if is_mdat c then c.body ∷ [] else []
+essence_met s = []
+
+-- the bodies of the mdats among some atoms
+abbrev pub mdat_bodies : List Chunk → List (List ℕ)
+mdat_bodies [] = []
+mdat_bodies (c ∷ cs) = (if is_mdat c then c.body ∷ [] else []) ++ mdat_bodies cs
 
 -- an atom of moov, and where it stands
 pub record Kid : Type 0 where

@@ -2,7 +2,7 @@
 use Rattle.std.specs.Prelude.{Bool, List, [], codes, false, true, ℕ, ◌++◌, ◌∷◌}
 use Rattle.container_model.specs.Chunk.{Chunk, Run, chunks, spell_all}
 use Rattle.container_model.specs.Sizes.{atom_front, top}
-use Rattle.mov_model.specs.Atoms.{atom, is}
+use Rattle.container_model.specs.Atoms.{atom, is}
 
 -- the atoms before the first moov, moov, the atoms behind it, and the bytes left
 pub record Movie : Type 0 where

@@ -5,11 +5,12 @@ use Rattle.container_model.specs.Chunk.{Chunk, header_bytes, spell_all}
 use Rattle.container_model.specs.Items.{Item, is_nil}
 use Rattle.container_model.specs.Splice.{Cut, shift}
 use Rattle.container_model.specs.Units.{Fill, Piece, copied, cuts, lay, replaced, shut, unit_bytes, units}
-use Rattle.mov_model.specs.Atoms.{atom, atoms_in, cell_of, is_padding}
+use Rattle.mov_model.specs.Atoms.{cell_of, is_padding}
+use Rattle.container_model.specs.Atoms.{atom, atoms_in}
 use Rattle.mov_model.specs.Carried.{carried}
 use Rattle.mov_model.specs.Movie.{Movie, movie_of, spell_movie}
 use Rattle.mov_model.specs.Tables.{relocated}
-use Rattle.mov_model.specs.User.{udta, user_items}
+use Rattle.qt_text.specs.User.{udta, user_items}
 
 -- ---- padding
 

@@ -3,9 +3,10 @@ use Rattle.std.specs.Prelude.{Bool, List, [], codes, false, if◌then◌else◌,
 use Rattle.std.specs.List.{flat_map}
 use Rattle.container_model.specs.Chunk.{Chunk}
 use Rattle.container_model.specs.Units.{solids}
-use Rattle.mov_model.specs.Atoms.{atoms_in, is, is_padding}
+use Rattle.mov_model.specs.Atoms.{is_padding}
+use Rattle.container_model.specs.Atoms.{atoms_in, is}
 use Rattle.mov_model.specs.Movie.{Movie}
-use Rattle.mov_model.specs.User.{udta}
+use Rattle.qt_text.specs.User.{udta}
 
 -- the atoms of moov that are no padding
 abbrev pub parts : Movie → List Chunk

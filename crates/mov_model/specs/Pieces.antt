@@ -1,11 +1,12 @@
 -- What a movie's tables find: where each chunk of a track stands, and its samples (QuickTime File Format, sample tables).
 use Rattle.std.specs.Prelude.{Bool, List, None, Option, Some, [], codes, drop, if◌then◌else◌, length, map, nat_le, nat_lt, suc, ℕ, ◌&&◌, ◌-◌, ◌∷◌}
 use Rattle.container_model.specs.Chunk.{Chunk, header_bytes, spell}
-use Rattle.mov_model.specs.Atoms.{is}
+use Rattle.container_model.specs.Atoms.{is}
 use Rattle.mov_model.specs.Movie.{Movie, all_atoms, movie_of}
 use Rattle.mov_model.specs.Parts.{tracks}
-use Rattle.mov_model.specs.Samples.{samples}
-use Rattle.mov_model.specs.Tables.{places, tables}
+use Rattle.sample_tables.specs.Samples.{samples}
+use Rattle.mov_model.specs.Tables.{tables}
+use Rattle.sample_tables.specs.Tables.{places}
 
 -- it holds the essence
 abbrev pub is_mdat : Chunk → Bool

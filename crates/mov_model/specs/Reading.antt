@@ -6,9 +6,10 @@ use Rattle.container_model.specs.Chunk.{Chunk, spell, spell_all}
 use Rattle.container_model.specs.Deep.{Leaf}
 use Rattle.container_model.specs.Items.{listed}
 use Rattle.container_model.specs.Walk.{Step, along, body_at, chunk_at, chunk_met, end_at, nested, walk}
-use Rattle.mov_model.specs.Atoms.{Place, atoms_in, dinf, file, format, is_listed, mdia, minf, moov, stbl, trak, user_data}
+use Rattle.mov_model.specs.Atoms.{Place, dinf, file, format, mdia, minf, moov, stbl, trak, user_data}
+use Rattle.container_model.specs.Atoms.{atoms_in, is_listed}
 use Rattle.mov_model.specs.Movie.{Movie, all_atoms, movie_of, top_run}
-use Rattle.mov_model.specs.User.{udta}
+use Rattle.qt_text.specs.User.{udta}
 
 -- atoms that follow each other from a place on
 abbrev pub row : Place → ℕ → List Chunk → List (Step Place)

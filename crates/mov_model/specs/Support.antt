@@ -4,14 +4,16 @@ use Rattle.std.specs.List.{AllByRecursion}
 use Rattle.container_model.specs.Chunk.{Chunk, ends, spell}
 use Rattle.container_model.specs.Deep.{Whole}
 use Rattle.container_model.specs.Units.{solids}
-use Rattle.mov_model.specs.Atoms.{atoms_in, format, is, is_padding, moov}
+use Rattle.mov_model.specs.Atoms.{format, is_padding, moov}
+use Rattle.container_model.specs.Atoms.{atoms_in, is}
 use Rattle.mov_model.specs.Kind.{begins_movie}
 use Rattle.mov_model.specs.Movie.{Movie, all_atoms, movie_of, top_run}
 use Rattle.mov_model.specs.Parts.{first_user, has_id, parts, tracks}
 use Rattle.mov_model.specs.Pieces.{held}
 use Rattle.mov_model.specs.Reading.{count_parts, names, no_twice}
-use Rattle.mov_model.specs.Tables.{is_external, is_other_offsets, is_short_reference, is_short_table, places, references, tables}
-use Rattle.mov_model.specs.User.{udta}
+use Rattle.mov_model.specs.Tables.{references, tables}
+use Rattle.sample_tables.specs.Tables.{is_external, is_other_offsets, is_short_reference, is_short_table, places}
+use Rattle.qt_text.specs.User.{udta}
 
 -- a chunk of a track stands in the body of an mdat
 abbrev pub IsHeld : List Chunk → ℕ → Type 0

@@ -5,26 +5,24 @@ use Rattle.std.specs.Str.{bytes_eq}
 use Rattle.part_tree.specs.Letters.{four}
 use Rattle.part_tree.specs.declared.why.Why.{Why}
 use Rattle.part_tree.specs.declared.why.Why.TheVariants.{CarrierBig, ChunkAstray, Compressed, External, Fragments, MoovBig, NoMoov, OtherOffsets, Reference, SizeSmall, TableShort, TableTwice, TooManyParts, Truncated, TwoMoov, UnknownKind}
-use Rattle.container_model.specs.Chunk.{Chunk, Stop, bad_header, ends, spell}
+use Rattle.container_model.specs.Chunk.{Chunk, Stop, bad_header, spell}
 use Rattle.container_model.specs.Items.{listed}
+use Rattle.container_model.specs.Tests.{first, ended}
 use Rattle.container_model.specs.Walk.{Step, chunk_at, end_at}
-use Rattle.mov_model.specs.Atoms.{Place, dinf, file, is, is_listed, moov, stbl, user_data}
+use Rattle.mov_model.specs.Atoms.{Place, dinf, file, moov, stbl, user_data}
+use Rattle.container_model.specs.Atoms.{is, is_listed}
 use Rattle.mov_model.specs.Kind.{begins_movie}
 use Rattle.mov_model.specs.Movie.{all_atoms, movie_of}
 use Rattle.mov_model.specs.Parts.{tracks}
 use Rattle.mov_model.specs.Pieces.{held}
 use Rattle.mov_model.specs.Reading.{atoms_met, once, reading}
-use Rattle.mov_model.specs.Tables.{is_external, is_other_offsets, is_short_reference, is_short_table, places, tables}
-use Rattle.mov_model.specs.User.{udta}
+use Rattle.mov_model.specs.Tables.{tables}
+use Rattle.sample_tables.specs.Tables.{is_external, is_other_offsets, is_short_reference, is_short_table, places}
+use Rattle.qt_text.specs.User.{udta}
 
 -- a test, and why a movie is refused where it holds
 abbrev pub Test : Type 0
 Test = Bool × Why
-
--- the first test that holds
-abbrev pub first : List Test → Option Why
-first [] = None
-first (t ∷ ts) = if t.0 then Some t.1 else first ts
 
 -- ---- what was met before; the last step comes first
 
@@ -121,11 +119,6 @@ atom_tests p before at c = track_tests p before at c
 abbrev pub bad_size : Stop → Bool
 bad_size bad_header = true
 bad_size stop = false
-
--- it ends as it should
-abbrev pub ended : Stop → Bool
-ended ends = true
-ended stop = false
 
 -- at the end of the file's atoms there is a moov
 abbrev pub end_tests : Place → List (Step Place) → List Test

@@ -1,17 +1,23 @@
 //! The laws of an edit of a QuickTime movie.
 #![tactic(auto)]
 
-ghost use Rattle.std.specs.Prelude.{◌≡◌, ◌≤◌, ◌⊎◌, ◌^◌, ◌-◌, ℕ, List, [], ◌++◌, length, map, take, drop, Some, None};
+ghost use Rattle.std.specs.Prelude.{◌≡◌, ◌≤◌, ◌⊎◌, ◌^◌, ◌-◌, ℕ, List, [], ◌++◌, false, length, map, take, drop, Some, None};
 ghost use Rattle.me_bytes.specs.Bytes.{IsBytes};
-ghost use Rattle.container_model.specs.Splice.{Ascend, splice};
+ghost use Rattle.carrier_model.specs.Gaps.{moves_of};
+ghost use Rattle.container_model.specs.Splice.{Ascend, shift, splice};
+ghost use Rattle.part_tree.specs.Moves.{place};
 ghost use Rattle.container_model.specs.Items.{Item};
 ghost use Rattle.part_tree.specs.declared.field.Value.{Value};
-ghost use Rattle.mov_model.specs.Movie.{movie_of, spell_movie, all_atoms};
+ghost use Rattle.container_model.specs.Atoms.{atoms_in};
+ghost use Rattle.container_model.specs.Chunk.{Chunk, joined};
+ghost use Rattle.qt_text.specs.User.{udta};
+ghost use Rattle.mov_model.specs.Map.{bytes_in, essence, mdat_bodies, met_bodies, parts_of};
+ghost use Rattle.mov_model.specs.Movie.{movie_of, spell_movie, all_atoms, top_run};
+ghost use Rattle.mov_model.specs.Reading.{count_parts};
 ghost use Rattle.mov_model.specs.New.{edited_file, new_movie, laid_movie, overlaid, edit_cuts, with_size};
-ghost use Rattle.mov_model.specs.Edited.{Edited, changes, fields, new_file};
-ghost use Rattle.mov_model.specs.Support.{Supported};
+ghost use Rattle.mov_model.specs.Edited.{Edited, changes, fields, new_file, sets_keys};
+ghost use Rattle.mov_model.specs.Support.{IsHeld, Supported};
 ghost use Rattle.mov_model.specs.Pieces.{held};
-ghost use Rattle.mov_model.specs.Samples.{samples_in};
 ghost use Rattle.mov_model.specs.Why.{why};
 ghost use Rattle.part_tree.specs.declared.field.EditItem.{EditItem};
 ghost use Rattle.part_tree.specs.declared.field.RuleSet.TheVariants.{Base};
@@ -19,16 +25,16 @@ ghost use Rattle.part_tree.specs.declared.names.Kind.TheVariants.{Mov};
 ghost use Rattle.field_model.specs.Broken.{broken};
 ghost use Rattle.mov_model.specs.Cuts.{TablesStay, all_cuts, unit_cuts};
 ghost use Rattle.mov_model.specs.Room.{Room, patches};
-ghost use Rattle.carrier_model.specs.Order.{SoundPatches};
+ghost use Rattle.part_tree.specs.Order.{SoundPatches};
 ghost use Rattle.part_tree.specs.Patches.{laid};
 ghost use Rattle.std.specs.List.{AllByRecursion, flat_map};
-ghost use Rattle.mov_model.specs.User.{TextFits, text_bytes, texts};
 ghost use Rattle.mov_model.specs.Large.{too_large};
 
-/// For every supported movie and every edit that keeps the rules of Base, and after which nothing is too large, the new
+/// For every supported movie and every edit that keeps the rules of Base, names no key, and after which nothing is too large, the new
 /// file is the old one edited.
 pub fn new_is_edited()
-    ensures { (o : List ℕ) (e : List EditItem) → IsBytes o → Supported o → broken Mov (fields o) e Base ≡ None → too_large o e ≡ None → Edited o e (new_file o e) }
+    ensures { (o : List ℕ) (e : List EditItem) → IsBytes o → Supported o → broken Mov 0 (fields o) e Base ≡ None → sets_keys e ≡ false
+        → too_large o e ≡ None → Edited o e (new_file o e) }
 {}
 
 /// Before its tables are relocated, the new file is the old one with the slots replaced and the size of `moov` set.
@@ -80,12 +86,25 @@ pub fn new_is_no_larger()
     ensures { (o : List ℕ) (e : List EditItem) → too_large o e ≡ None → (changes o e ≡ []) ⊎ (length (new_file o e) ≤ 2 ^ 63 - 1) }
 {}
 
-/// Texts whose lengths and languages fit are read as they are written.
-pub fn texts_are_read_again()
-    ensures { (ts : List Value) → AllByRecursion TextFits ts → texts (flat_map text_bytes ts) ≡ ts }
+/// A reader tells as many parts of a movie as are counted. At the spans of their bodies lie the bodies of the atoms that are met,
+/// in the order of reading, and at those of the essence the bodies of the `mdat`s, in file order.
+pub fn what_is_told()
+    ensures parts { (b : List ℕ) → IsBytes b → Supported b → length (parts_of b) ≡ count_parts (movie_of b) }
+    ensures bodies { (b : List ℕ) → IsBytes b → Supported b → map (λ p. bytes_in b p.body) (parts_of b) ≡ met_bodies b }
+    ensures essence { (b : List ℕ) → IsBytes b → Supported b → map (bytes_in b) (essence b) ≡ mdat_bodies (all_atoms (movie_of b)) }
 {}
 
-/// Each sample that is named has as many bytes as the table of sizes tells.
-pub fn samples_are_whole()
-    ensures { (n : ℕ) (sizes tail : List ℕ) → map (λ (x : List ℕ). length x) (samples_in n sizes tail) ≡ take (length (samples_in n sizes tail)) sizes }
+/// What is read of any bytes spells them, also where the reading stops at a refusal: the atoms of a file with what is left of it,
+/// and those of an atom, or of user data, with what is left of its body.
+pub fn atoms_are_read_in_turn()
+    ensures file { (b : List ℕ) → IsBytes b → joined (top_run b) ≡ b }
+    ensures inside { (c : Chunk) → IsBytes c.body → (joined (atoms_in c) ≡ c.body) × (joined (udta.opening c) ≡ c.body) }
+{}
+
+/// The slots of an edit ascend and lie in the file. A chunk of a track stands in none of them, and the ranges between them put
+/// its place where they shift it.
+pub fn chunks_go_with_their_range()
+    ensures ascend { (o : List ℕ) (e : List EditItem) → IsBytes o → Supported o → Ascend 0 (edit_cuts (movie_of o) (changes o e)) (length o) }
+    ensures put { (o : List ℕ) (e : List EditItem) (p : ℕ) → IsBytes o → Supported o → IsHeld (all_atoms (movie_of o)) p
+        → place (moves_of (edit_cuts (movie_of o) (changes o e)) (length o)) p ≡ Some (shift (edit_cuts (movie_of o) (changes o e)) p) }
 {}

@@ -1,8 +1,8 @@
 -- The first test that holds.
-use Rattle.std.proofs.Common.{◌≡◌, ◌∙◌, ℕ, zero, suc, ◌<◌, Bool, true, false, List, [], ◌∷◌, ◌++◌, length, drop, refl, ap, arith}
-use Rattle.std.specs.Prelude.{slice_index_or, Option, Some, None, if◌then◌else◌}
+use Rattle.std.proofs.Common.{◌≡◌, ℕ, zero, suc, ◌<◌, Bool, true, false, List, [], ◌∷◌, ◌++◌, length, drop, refl, arith}
+use Rattle.std.specs.Prelude.{slice_index_or, Some, None, if◌then◌else◌}
 use Rattle.part_tree.specs.declared.why.Why.{Why}
-use Rattle.mov_model.specs.Why.{first}
+use Rattle.container_model.specs.Tests.{first}
 
 pub first_at : (ts : List (Bool × Why)) (i : ℕ) (d : Bool × Why) → i < length ts → first (drop i ts) ≡ (if (slice_index_or ts i d).0 then Some (slice_index_or ts i d).1 else first (drop (suc i) ts))
 first_at [] i d lt = absurd (omega arith)

@@ -1,27 +1,27 @@
 -- The heads of tables, read from the file.
-use Rattle.std.proofs.Common.{◌≡◌, ◌∙◌, ℕ, zero, suc, ◌+◌, ◌-◌, ◌*◌, ◌<◌, ◌≤◌, Bool, true, false, ltb, leb, eqb, List, [], ◌∷◌, ◌++◌, length, map, take, drop, refl, sym, ap, arith, Option, Some, None, inl, inr}
+use Rattle.std.proofs.Common.{◌≡◌, ◌∙◌, ℕ, zero, suc, ◌+◌, ◌-◌, ◌*◌, ◌<◌, ◌≤◌, Bool, true, false, ltb, leb, eqb, List, length, take, drop, refl, sym, ap, arith, Option, Some, None, inl, inr}
 use Rattle.std.specs.Prelude.{◌&&◌, ◌%◌, codes, not, if◌then◌else◌}
 use Rattle.std.specs.Int.{w32, from_be_bytes}
 use Rattle.std.specs.Str.{bytes_eq}
 use Rattle.std.proofs.lemmas.Bool.{cases_lt, le-leb, le-ltb, lt-leb}
 use Rattle.container_model.specs.Windows.{window}
-use Rattle.container_model.proofs.Windows.{length_slice, length-window, window-drop, window-take}
+use Rattle.container_model.proofs.Windows.{length_slice, window-drop, window-take}
 use Rattle.mov_walk.specs.declared.holder.Holder.{Holder}
 use Rattle.mov_walk.specs.declared.holder.Holder.TheVariants.{Dinf}
 use Rattle.mov_walk.specs.Holder.{place_of}
-use Rattle.std.proofs.lemmas.List.{drop-drop, drop-take, take-take, length-take, length-drop}
-use Rattle.part_tree.specs.declared.why.Why.{Why}
+use Rattle.std.proofs.lemmas.List.{drop-drop, drop-take, take-take}
 use Rattle.part_tree.specs.declared.why.Why.TheVariants.{External, OtherOffsets, TableShort, TableTwice}
 use Rattle.container_model.specs.Chunk.{Chunk}
 use Rattle.container_model.specs.Walk.{Step}
 use Rattle.container_model.specs.Written.{slice}
-use Rattle.mov_model.specs.Atoms.{Place, atom, is, is_listed, stbl, dinf}
+use Rattle.mov_model.specs.Atoms.{Place, dinf}
+use Rattle.container_model.specs.Atoms.{atom, is, is_listed}
 use Rattle.mov_model.specs.Reading.{once}
-use Rattle.mov_model.specs.Tables.{count, entries_local, entries_whole, entry_flags, entry_size, is_external, is_short_reference, is_short_table, size_rows}
-use Rattle.mov_model.specs.Why.{external, first, is_twice, names_met, other_offsets, short_table, track_number, track_tests}
-use Rattle.sample_tables.specs.Tables.{row_len_of, size_count}
+use Rattle.sample_tables.specs.Tables.{entries_local, entries_whole, entry_flags, entry_size, is_external, is_short_reference, is_short_table, size_rows}
+use Rattle.mov_model.specs.Why.{external, is_twice, names_met, other_offsets, short_table, track_number, track_tests}
+use Rattle.container_model.specs.Tests.{first}
+use Rattle.sample_tables.specs.Counts.{row_len_of, size_count}
 use Rattle.mov_walk.specs.Tables.{rows_short, sizes_short}
-use Rattle.mov_walk.specs.Walked.{AreMet}
 
 -- some bytes of a range
 pub in_slice : (b : List ℕ) (at n j k : ℕ) → j + k ≤ n → take k (drop j (slice b at n)) ≡ take k (drop (at + j) b)

@@ -1,8 +1,7 @@
 -- What is kept of an atom that is met.
-use Rattle.std.proofs.Common.{◌≡◌, ◌∙◌, ℕ, zero, suc, ◌+◌, Bool, true, false, List, [], ◌∷◌, ◌++◌, length, map, refl, sym, ap, arith, Option}
+use Rattle.std.proofs.Common.{◌≡◌, ◌∙◌, ℕ, suc, ◌+◌, Bool, true, false, List, [], ◌∷◌, ◌++◌, length, map, refl, sym, ap, arith, Option}
 use Rattle.std.specs.Prelude.{Some, None, ◌||◌, codes, if◌then◌else◌}
 use Rattle.std.specs.Str.{bytes_eq}
-use Rattle.std.specs.List.{flat_map}
 use Rattle.part_tree.specs.declared.names.FourCc.{FourCc}
 use Rattle.part_tree.specs.declared.names.Span.{Span}
 use Rattle.part_tree.specs.declared.part.Part.{Part}
@@ -10,10 +9,11 @@ use Rattle.part_tree.specs.declared.part.Role.{Role}
 use Rattle.container_model.specs.Chunk.{Chunk, spell}
 use Rattle.container_model.specs.Items.{listed}
 use Rattle.container_model.specs.Walk.{Step, chunk_at}
-use Rattle.mov_model.specs.Atoms.{Place, atom, file, user_data, moov, trak, mdia, minf, stbl, dinf, is_listed}
-use Rattle.mov_model.specs.Map.{body_span, essence_at, part_met, role_at}
-use Rattle.mov_model.specs.Reading.{atoms_met, once}
-use Rattle.mov_model.specs.Why.{count_of, met_moov, met_user, moov_id, names_met, track_number}
+use Rattle.mov_model.specs.Atoms.{Place, file, user_data, moov, trak, mdia, minf, stbl, dinf}
+use Rattle.container_model.specs.Atoms.{atom, is_listed}
+use Rattle.mov_model.specs.Map.{body_span, essence_at, role_at}
+use Rattle.mov_model.specs.Reading.{once}
+use Rattle.mov_model.specs.Why.{met_moov, met_user, names_met, track_number}
 use Rattle.qt_atoms.specs.declared.walker.AtomAt.{AtomAt}
 use Rattle.mov_walk.specs.declared.holder.Holder.{Holder}
 use Rattle.mov_walk.specs.declared.holder.Holder.TheVariants.{File, UserData, Moov, Trak, Mdia, Minf, Stbl, Dinf}

@@ -1,5 +1,5 @@
 -- Steps that are met one after the other.
-use Rattle.std.proofs.Common.{◌≡◌, ◌∙◌, ℕ, zero, suc, ◌+◌, ◌-◌, ◌<◌, ◌≤◌, Bool, true, false, leb, List, [], ◌∷◌, ◌++◌, length, take, drop, refl, sym, ap, subst, append_assoc, arith, Option, Some, None, length-append}
+use Rattle.std.proofs.Common.{◌≡◌, ◌∙◌, ℕ, zero, suc, ◌+◌, ◌-◌, ◌<◌, Bool, true, false, leb, List, [], ◌∷◌, ◌++◌, length, take, drop, refl, sym, ap, subst, append_assoc, arith, Option, Some, None, length-append}
 use Rattle.std.specs.Prelude.{◌&&◌, ◌||◌, ◌^◌, codes, nat_lt, not, if◌then◌else◌, IfOk, IsNone, Result}
 use Rattle.std.specs.Str.{bytes_eq}
 use Rattle.me_disk.specs.declared.depot.DepotFault.{DepotFault}
@@ -17,9 +17,11 @@ use Rattle.container_model.specs.Chunk.{Chunk, Stop, Run, and_then, bad_header, 
 use Rattle.container_model.specs.Sizes.{Level, atom_front, inside, top, user}
 use Rattle.container_model.specs.Walk.{Step, along, body_at, chunk_at, end_at, walk, walk_at}
 use Rattle.container_model.specs.Windows.{window}
-use Rattle.mov_model.specs.Atoms.{Place, dinf, either, file, format, is_listed, mdia, minf, moov, opens, stbl, trak, user_data, when}
+use Rattle.mov_model.specs.Atoms.{Place, dinf, either, file, format, mdia, minf, moov, opens, stbl, trak, user_data, when}
+use Rattle.container_model.specs.Atoms.{is_listed}
 use Rattle.mov_model.specs.Map.{essence_at, part_met, parts_from}
-use Rattle.mov_model.specs.Why.{Test, atom_tests, end_tests, first, met_user, moov_id, moov_tests, step_tests, tests_from, track_tests}
+use Rattle.mov_model.specs.Why.{Test, atom_tests, end_tests, met_user, moov_id, moov_tests, step_tests, tests_from, track_tests}
+use Rattle.container_model.specs.Tests.{first}
 use Rattle.mov_model.specs.Reading.{atoms_met, inside_steps, kid_steps, row as steps}
 use Rattle.container_model.specs.Written.{slice}
 use Rattle.qt_atoms.specs.declared.walker.AtomAt.{AtomAt}
@@ -33,7 +35,7 @@ use Rattle.mov_walk.proofs.Firsts.{first_before, first_behind}
 use Rattle.mov_walk.specs.declared.reading.Reading.{Reading}
 use Rattle.mov_walk.specs.Walked.{Knows, Remembers, Stands, Walked, Walks, after, file_steps, moov_in, steps_in}
 use Rattle.mov_model.specs.Movie.{top_run}
-use Rattle.mov_model.specs.User.{udta}
+use Rattle.qt_text.specs.User.{udta}
 use Rattle.mov_model.proofs.Steps.{back, inner, inner_track, listed_back, track_ids, walk_kid}
 
 -- ---- two lists of steps

@@ -2,8 +2,8 @@
 use Rattle.std.specs.Prelude.{◌≡◌, ℕ, ◌+◌, ◌*◌, List, Bool, true, false, length, take, drop, nat_lt}
 use Rattle.std.specs.Int.{w32, from_be_bytes}
 use Rattle.container_model.specs.Chunk.{Chunk}
-use Rattle.mov_model.specs.Tables.{is_external, is_short_reference, size_rows}
-use Rattle.sample_tables.specs.Tables.{size_count}
+use Rattle.sample_tables.specs.Tables.{is_external, is_short_reference, size_rows}
+use Rattle.sample_tables.specs.Counts.{size_count}
 use Rattle.mov_walk.specs.declared.tables.References.{References}
 use Rattle.mov_walk.specs.declared.tables.References.TheVariants.{Short, External, Local}
 

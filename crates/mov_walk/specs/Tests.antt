@@ -1,5 +1,5 @@
 -- The tests of an atom by what is kept of those before it.
-use Rattle.std.specs.Prelude.{ℕ, ◌-◌, ◌^◌, List, [], ◌∷◌, Bool, ◌&&◌, not, nat_lt, codes}
+use Rattle.std.specs.Prelude.{◌-◌, ◌^◌, List, [], ◌∷◌, Bool, ◌&&◌, not, nat_lt, codes}
 use Rattle.std.specs.Str.{bytes_eq}
 use Rattle.part_tree.specs.declared.why.Why.TheVariants.{CarrierBig, Compressed, Fragments, MoovBig, Reference, TwoMoov}
 use Rattle.mov_model.specs.Why.{Test}

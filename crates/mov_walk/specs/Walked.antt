@@ -1,5 +1,5 @@
 -- What a walk has met, and what it adds to that.
-use Rattle.std.specs.Prelude.{◌≡◌, ◌≤◌, ◌<◌, ◌^◌, ℕ, ◌+◌, ◌-◌, List, [], ◌∷◌, ◌++◌, length, map, Option, Some, None, Result, Bool, false, ◌||◌, codes}
+use Rattle.std.specs.Prelude.{◌≡◌, ◌≤◌, ℕ, ◌+◌, List, [], ◌∷◌, ◌++◌, length, map, Option, Some, None, Result, Bool, false, ◌||◌, codes}
 use Rattle.std.specs.declared.result.Result.TheVariants.{Ok, Err}
 use Rattle.std.specs.List.{flat_map}
 use Rattle.part_tree.specs.declared.names.FourCc.{FourCc}
@@ -10,11 +10,13 @@ use Rattle.part_tree.specs.declared.why.ReadFault.TheVariants as fault
 use Rattle.container_model.specs.Chunk.{Chunk, spell, spell_all}
 use Rattle.container_model.specs.Sizes.{Level, inside}
 use Rattle.container_model.specs.Walk.{Step, along, body_at, end_at, walk}
-use Rattle.mov_model.specs.Atoms.{Place, file, format, is, is_listed, moov, stbl}
+use Rattle.mov_model.specs.Atoms.{Place, file, format, moov, stbl}
+use Rattle.container_model.specs.Atoms.{is, is_listed}
 use Rattle.mov_model.specs.Map.{essence_at, file_role, moov_role, part_met, parts_from, role_where}
 use Rattle.mov_model.specs.Reading.{atoms_met, inside_steps, once, row as steps}
 use Rattle.mov_model.specs.Movie.{top_run}
-use Rattle.mov_model.specs.Why.{first, met_moov, met_user, names_met, step_tests, tests_from, track_number}
+use Rattle.mov_model.specs.Why.{met_moov, met_user, names_met, tests_from, track_number}
+use Rattle.container_model.specs.Tests.{first}
 use Rattle.qt_atoms.specs.Walk.{row}
 use Rattle.qt_atoms.specs.declared.walker.AtomAt.{AtomAt}
 use Rattle.mov_walk.specs.declared.holder.Holder.{Holder}

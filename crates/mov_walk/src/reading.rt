@@ -3,7 +3,8 @@ ghost use Rattle.std.specs.Prelude.{◌≡◌, ◌≤◌, ◌<◌, ◌+◌, ◌+
 ghost use Rattle.std.specs.Str.{bytes_eq};
 ghost use Rattle.container_model.specs.Chunk.{Chunk, spell};
 ghost use Rattle.container_model.specs.Walk.{Step, chunk_at};
-ghost use Rattle.mov_model.specs.Atoms.{Place, atom, is_listed, is_padding};
+ghost use Rattle.mov_model.specs.Atoms.{Place, is_padding};
+ghost use Rattle.container_model.specs.Atoms.{atom, is_listed};
 ghost use Rattle.mov_model.specs.Map.{file_role, moov_role};
 ghost use Rattle.mov_walk.specs.Holder.{place_of};
 ghost use Rattle.mov_walk.specs.Walked.{Few, Knows, Remembers, Stands, is_moov_kid, is_top, names_after, role_by};

@@ -1,6 +1,6 @@
 // Why an atom is refused.
 ghost use Rattle.std.specs.Prelude.{◌≡◌, ◌≤◌, ℕ, List};
-ghost use Rattle.mov_model.specs.Why.{first};
+ghost use Rattle.container_model.specs.Tests.{first};
 ghost use Rattle.mov_walk.specs.Tests.{file_by, moov_by};
 
 use part_tree::Why;

@@ -3,21 +3,19 @@ use Rattle.std.proofs.Common.{◌≡◌, ◌∙◌, ℕ, ◌+◌, ◌-◌, ◌*�
 use Rattle.std.specs.Prelude.{Option, Some, None, not, ◌||◌}
 use Rattle.std.specs.Str.{bytes_eq}
 use Rattle.std.specs.Int.{w16, w32, w64, from_le_bytes}
-use Rattle.std.specs.declared.result.Result.TheVariants.{Ok, Err}
 use Rattle.std.proofs.lemmas.Bool.{le-leb, lt-leb}
-use Rattle.part_tree.specs.declared.why.Why.{Why}
-use Rattle.part_tree.specs.declared.why.Why.TheVariants.{IndexKind as KindWhy, IndexShort}
 use Rattle.container_model.specs.Written.{slice}
 use Rattle.container_model.proofs.Written.{slice_slice}
-use Rattle.avi_model.specs.Index.{is_super, width, index_base, used}
-use Rattle.avi_model.specs.Support.{kind, is_index_kind, is_super_kind, is_standard_kind, has_header, has_entries}
-use Rattle.avi_model.specs.Why.{first, sound_tests}
-use Rattle.avi_model.proofs.Types.{same_true}
-use Rattle.avi_model.proofs.Entries.{super_kind}
-use Rattle.opendml_index.specs.declared.head.IndexHead.{IndexHead}
+use Rattle.container_model.specs.Tests.{first}
+use Rattle.opendml_index.specs.Index.{is_super, width, used}
+use Rattle.opendml_index.specs.Kinds.{kind, is_index_kind, is_super_kind, has_header, has_entries}
+use Rattle.opendml_index.specs.declared.head.HeadFault.{HeadFault}
+use Rattle.opendml_index.specs.declared.head.HeadFault.TheVariants.{Short, Wrong}
+use Rattle.opendml_index.proofs.Known.{same_true, super_kind}
+use Rattle.part_tree.specs.declared.table.IndexHead.{IndexHead}
 use Rattle.opendml_index.specs.declared.head.IndexKind.{IndexKind}
 use Rattle.opendml_index.specs.declared.head.IndexKind.TheVariants.{Super, Standard, TwoFields}
-use Rattle.opendml_index.specs.Heads.{OfKind, IsFront, IsHead, longs, standard, two_fields, one_field_kind, two_field_kind}
+use Rattle.opendml_index.specs.Heads.{OfKind, IsFront, IsHead, longs, standard, two_fields, one_field_kind, two_field_kind, head_tests}
 
 front_slice : (body : List ℕ) (i k : ℕ) → i + k ≤ 24 → slice (take 24 body) i k ≡ slice body i k
 front_slice body i k le = let place : 0 + i ≡ i = omega arith in slice_slice body 0 24 i k le ∙ ap (λ (p : ℕ). slice body p k) place
@@ -112,20 +110,20 @@ kind_known body TwoFields h = fourth_of (bytes_eq (kind body) (4 ∷ 0 ∷ 0 ∷
 
 -- ---- the tests
 
-abbrev by3 : ℕ → Bool → Bool → Bool → Option Why
-by3 at header known there = first ((not header, IndexShort at) ∷ ((not known, KindWhy at) ∷ ((not there, IndexShort at) ∷ [])))
+abbrev by3 : Bool → Bool → Bool → Option HeadFault
+by3 header known there = first ((not header, Short) ∷ ((not known, Wrong) ∷ ((not there, Short) ∷ [])))
 
-pub no_header : (body : List ℕ) (at : ℕ) → has_header body ≡ false → first (sound_tests is_index_kind at body) ≡ Some (IndexShort at)
-no_header body at e = ap (λ (x : Bool). by3 at x (is_index_kind body) (has_entries body)) e
+pub no_header : (body : List ℕ) → has_header body ≡ false → first (head_tests is_index_kind body) ≡ Some Short
+no_header body e = ap (λ (x : Bool). by3 x (is_index_kind body) (has_entries body)) e
 
-pub no_kind : (body : List ℕ) (at : ℕ) → has_header body ≡ true → is_index_kind body ≡ false → first (sound_tests is_index_kind at body) ≡ Some (KindWhy at)
-no_kind body at e k = ap (λ (x : Bool). by3 at x (is_index_kind body) (has_entries body)) e ∙ ap (λ (x : Bool). by3 at true x (has_entries body)) k
+pub no_kind : (body : List ℕ) → has_header body ≡ true → is_index_kind body ≡ false → first (head_tests is_index_kind body) ≡ Some Wrong
+no_kind body e k = ap (λ (x : Bool). by3 x (is_index_kind body) (has_entries body)) e ∙ ap (λ (x : Bool). by3 true x (has_entries body)) k
 
-pub no_entries : (body : List ℕ) (at : ℕ) → has_header body ≡ true → is_index_kind body ≡ true → has_entries body ≡ false → first (sound_tests is_index_kind at body) ≡ Some (IndexShort at)
-no_entries body at e k n = ap (λ (x : Bool). by3 at x (is_index_kind body) (has_entries body)) e ∙ ap (λ (x : Bool). by3 at true x (has_entries body)) k ∙ ap (by3 at true true) n
+pub no_entries : (body : List ℕ) → has_header body ≡ true → is_index_kind body ≡ true → has_entries body ≡ false → first (head_tests is_index_kind body) ≡ Some Short
+no_entries body e k n = ap (λ (x : Bool). by3 x (is_index_kind body) (has_entries body)) e ∙ ap (λ (x : Bool). by3 true x (has_entries body)) k ∙ ap (by3 true true) n
 
-pub all_there : (body : List ℕ) (at : ℕ) → has_header body ≡ true → is_index_kind body ≡ true → has_entries body ≡ true → first (sound_tests is_index_kind at body) ≡ None
-all_there body at e k n = ap (λ (x : Bool). by3 at x (is_index_kind body) (has_entries body)) e ∙ ap (λ (x : Bool). by3 at true x (has_entries body)) k ∙ ap (by3 at true true) n
+pub all_there : (body : List ℕ) → has_header body ≡ true → is_index_kind body ≡ true → has_entries body ≡ true → first (head_tests is_index_kind body) ≡ None
+all_there body e k n = ap (λ (x : Bool). by3 x (is_index_kind body) (has_entries body)) e ∙ ap (λ (x : Bool). by3 true x (has_entries body)) k ∙ ap (by3 true true) n
 
 pub entries_false : (body : List ℕ) (h : IndexHead) (l u : ℕ) → IsHead body h → l ≡ h.longs → u ≡ h.used → 24 ≤ length body → length body - 24 < 4 * l * u → has_entries body ≡ false
 entries_false body h l u is longs_too used_too low lt =

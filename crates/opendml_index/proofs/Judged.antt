@@ -1,24 +1,17 @@
 -- One entry of a standard index that is judged.
-use Rattle.std.proofs.Common.{◌≡◌, ◌∙◌, ℕ, suc, ◌+◌, ◌-◌, ◌^◌, ◌<◌, ◌≤◌, Bool, true, false, ltb, leb, eqb, List, [], ◌∷◌, length, map, refl, sym, ap, subst, arith}
+use Rattle.std.proofs.Common.{◌≡◌, ◌∙◌, ℕ, ◌+◌, ◌^◌, ◌<◌, ◌≤◌, Bool, true, false, List, [], ◌∷◌, length, refl, sym, ap, arith}
 use Rattle.std.specs.Prelude.{Option, Some, None, ◌&&◌, ◌||◌, not, ◌==◌, nat_lt, nat_le, if◌then◌else◌}
 use Rattle.std.specs.List.{AllByRecursion}
 use Rattle.std.specs.declared.result.Result.TheVariants.{Ok, Err}
 use Rattle.std.proofs.lemmas.Bool.{ne_eqb, lt-leb}
 use Rattle.part_tree.specs.declared.names.Span.{Span}
-use Rattle.avi_model.specs.Index.{Table, entry_offset, entry_length, entry_second, within, misses}
-use Rattle.avi_model.specs.Map.{table_span}
-use Rattle.avi_model.specs.Support.{in_one, second_lies}
-use Rattle.avi_model.specs.Why.{Test, first, entry_tests}
-use Rattle.avi_model.specs.Avi.{avi_of}
-use Rattle.avi_model.specs.Index.{indexes}
-use Rattle.avi_model.specs.Support.{movi_spans, entry_lies}
-use Rattle.part_tree.specs.declared.why.Why.TheVariants.{IndexAstray, IndexOverlap}
-use Rattle.avi_index.specs.Checks.{or_else, refused}
-use Rattle.avi_index.specs.Spans.{clear_of}
-use Rattle.avi_index.proofs.Indexes.{clear_told}
-use Rattle.avi_index.specs.declared.base.IndexFault.{IndexFault}
-use Rattle.avi_index.specs.declared.base.IndexFault.TheVariants.{NoBase, Astray, Overlap, Depot}
-use Rattle.opendml_index.specs.Checks.{EndInside, JudgesEntry, counts, entry_fault, entries_fault}
+use Rattle.part_tree.specs.Ranges.{within, in_one, clear_of}
+use Rattle.part_tree.specs.declared.index.IndexFault.{IndexFault}
+use Rattle.part_tree.specs.declared.index.IndexFault.TheVariants.{Astray, Overlap}
+use Rattle.container_model.specs.Tests.{first}
+use Rattle.opendml_index.specs.Index.{entry_offset, entry_length, entry_second}
+use Rattle.opendml_index.specs.Kinds.{second_lies}
+use Rattle.opendml_index.specs.Checks.{EndInside, JudgesEntry, entry_tests}
 
 -- ---- the second place
 
@@ -50,44 +43,44 @@ pub record IsAt (row : List ℕ) (off size : ℕ) : Type 0 where
   pub offset : off ≡ entry_offset row
   pub len : size ≡ entry_length row
 
-pub fault_is : (movis : List Span) (ts : List Table) (ss : List Span) (base k : ℕ) (row : List ℕ) (off size : ℕ) (inside second clear : Bool) → IsAt row off size → map table_span ts ≡ ss
-    → inside ≡ in_one movis (base + off) size → second ≡ second_lies row → clear ≡ clear_of ss (base + off) size → entry_fault movis ts base k row ≡ fault_by k (size == 0) (inside && second) clear
-fault_is movis ts ss base k row off size inside second clear is told i s c =
+pub fault_is : (movis : List Span) (ss : List Span) (base k : ℕ) (row : List ℕ) (off size : ℕ) (inside second clear : Bool) → IsAt row off size
+    → inside ≡ in_one movis (base + off) size → second ≡ second_lies row → clear ≡ clear_of ss (base + off) size → first (entry_tests movis ss base k row) ≡ fault_by k (size == 0) (inside && second) clear
+fault_is movis ss base k row off size inside second clear is i s c =
     sym (
     ap (λ (x : Bool). fault_by k (size == 0) (x && second) clear) i
     ∙ ap (λ (x : Bool). fault_by k (size == 0) (in_one movis (base + off) size && x) clear) s
-    ∙ ap (λ (x : Bool). fault_by k (size == 0) (in_one movis (base + off) size && second_lies row) x) (c ∙ clear_told ts ss (base + off) size told)
-    ∙ ap (λ (x : ℕ). fault_by k (size == 0) (in_one movis (base + x) size && second_lies row) (misses ts (base + x) size)) is.offset
-    ∙ ap (λ (x : ℕ). fault_by k (x == 0) (in_one movis (base + entry_offset row) x && second_lies row) (misses ts (base + entry_offset row) x)) is.len
+    ∙ ap (λ (x : Bool). fault_by k (size == 0) (in_one movis (base + off) size && second_lies row) x) c
+    ∙ ap (λ (x : ℕ). fault_by k (size == 0) (in_one movis (base + x) size && second_lies row) (clear_of ss (base + x) size)) is.offset
+    ∙ ap (λ (x : ℕ). fault_by k (x == 0) (in_one movis (base + entry_offset row) x && second_lies row) (clear_of ss (base + entry_offset row) x)) is.len
     )
 
-pub judged_none : (movis : List Span) (ts : List Table) (base k : ℕ) (row : List ℕ) (off size : ℕ) → IsAt row off size → size ≡ 0 → JudgesEntry movis ts base k row (Ok false)
-judged_none movis ts base k row off size is none =
+pub judged_none : (movis : List Span) (ss : List Span) (base k : ℕ) (row : List ℕ) (off size : ℕ) → IsAt row off size → size ≡ 0 → JudgesEntry movis ss base k row (Ok false)
+judged_none movis ss base k row off size is none =
     let zero : entry_length row ≡ 0 = sym is.len ∙ none in (
-      ap (λ (x : ℕ). fault_by k (x == 0) (in_one movis (base + entry_offset row) (entry_length row) && second_lies row) (misses ts (base + entry_offset row) (entry_length row))) zero,
+      ap (λ (x : ℕ). fault_by k (x == 0) (in_one movis (base + entry_offset row) (entry_length row) && second_lies row) (clear_of ss (base + entry_offset row) (entry_length row))) zero,
       ap (λ (x : ℕ). not (x == 0)) (sym zero),
     )
 
-pub judged_astray : (movis : List Span) (ts : List Table) (base k : ℕ) (row : List ℕ) (off size : ℕ) (inside second : Bool) → IsAt row off size → (size ≡ 0 → ⊥) → inside ≡ in_one movis (base + off) size → second ≡ second_lies row
-    → (inside && second) ≡ false → JudgesEntry movis ts base k row (Err (Astray k))
-judged_astray movis ts base k row off size inside second is some i s out =
-    let clear = clear_of (map table_span ts) (base + off) size in
-    fault_is movis ts (map table_span ts) base k row off size inside second clear is refl i s refl
+pub judged_astray : (movis : List Span) (ss : List Span) (base k : ℕ) (row : List ℕ) (off size : ℕ) (inside second : Bool) → IsAt row off size → (size ≡ 0 → ⊥) → inside ≡ in_one movis (base + off) size → second ≡ second_lies row
+    → (inside && second) ≡ false → JudgesEntry movis ss base k row (Err (Astray k))
+judged_astray movis ss base k row off size inside second is some i s out =
+    let clear = clear_of ss (base + off) size in
+    fault_is movis ss base k row off size inside second clear is i s refl
     ∙ ap (λ (x : Bool). fault_by k x (inside && second) clear) (ne_eqb size 0 some)
     ∙ ap (λ (x : Bool). fault_by k false x clear) out
 
-pub judged_overlap : (movis : List Span) (ts : List Table) (ss : List Span) (base k : ℕ) (row : List ℕ) (off size : ℕ) (inside second clear : Bool) → IsAt row off size → map table_span ts ≡ ss → (size ≡ 0 → ⊥)
-    → inside ≡ in_one movis (base + off) size → second ≡ second_lies row → clear ≡ clear_of ss (base + off) size → (inside && second) ≡ true → clear ≡ false → JudgesEntry movis ts base k row (Err (Overlap k))
-judged_overlap movis ts ss base k row off size inside second clear is told some i s c lies hit =
-    fault_is movis ts ss base k row off size inside second clear is told i s c
+pub judged_overlap : (movis : List Span) (ss : List Span) (base k : ℕ) (row : List ℕ) (off size : ℕ) (inside second clear : Bool) → IsAt row off size → (size ≡ 0 → ⊥)
+    → inside ≡ in_one movis (base + off) size → second ≡ second_lies row → clear ≡ clear_of ss (base + off) size → (inside && second) ≡ true → clear ≡ false → JudgesEntry movis ss base k row (Err (Overlap k))
+judged_overlap movis ss base k row off size inside second clear is some i s c lies hit =
+    fault_is movis ss base k row off size inside second clear is i s c
     ∙ ap (λ (x : Bool). fault_by k x (inside && second) clear) (ne_eqb size 0 some)
     ∙ ap (λ (x : Bool). fault_by k false x clear) lies
     ∙ ap (λ (x : Bool). fault_by k false true x) hit
 
-pub judged_fine : (movis : List Span) (ts : List Table) (ss : List Span) (base k : ℕ) (row : List ℕ) (off size : ℕ) (inside second clear : Bool) → IsAt row off size → map table_span ts ≡ ss → (size ≡ 0 → ⊥)
-    → inside ≡ in_one movis (base + off) size → second ≡ second_lies row → clear ≡ clear_of ss (base + off) size → (inside && second) ≡ true → clear ≡ true → JudgesEntry movis ts base k row (Ok true)
-judged_fine movis ts ss base k row off size inside second clear is told some i s c lies free = (
-  fault_is movis ts ss base k row off size inside second clear is told i s c
+pub judged_fine : (movis : List Span) (ss : List Span) (base k : ℕ) (row : List ℕ) (off size : ℕ) (inside second clear : Bool) → IsAt row off size → (size ≡ 0 → ⊥)
+    → inside ≡ in_one movis (base + off) size → second ≡ second_lies row → clear ≡ clear_of ss (base + off) size → (inside && second) ≡ true → clear ≡ true → JudgesEntry movis ss base k row (Ok true)
+judged_fine movis ss base k row off size inside second clear is some i s c lies free = (
+  fault_is movis ss base k row off size inside second clear is i s c
       ∙ ap (λ (x : Bool). fault_by k x (inside && second) clear) (ne_eqb size 0 some)
       ∙ ap (λ (x : Bool). fault_by k false x clear) lies
       ∙ ap (λ (x : Bool). fault_by k false true x) free,
@@ -107,22 +100,8 @@ pub far : (movis : List Span) (p n : ℕ) → 2 ^ 64 < p + n → AllByRecursion 
 far [] p n lt h = refl
 far (s ∷ ss) p n lt h = or_no (within s p n) (in_one ss p n) (and_no (nat_le s.at p) (nat_le (p + n) (s.at + s.len)) (lt-leb (p + n) (s.at + s.len) (omega (arith, h.0)))) (far ss p n lt h.1)
 
-pub judged_far : (movis : List Span) (ts : List Table) (base k : ℕ) (row : List ℕ) (off size : ℕ) → IsAt row off size → (size ≡ 0 → ⊥) → 2 ^ 64 ≤ base + off → AllByRecursion (EndInside (2 ^ 64)) movis
-    → JudgesEntry movis ts base k row (Err (Astray k))
-judged_far movis ts base k row off size is some past ends =
+pub judged_far : (movis : List Span) (ss : List Span) (base k : ℕ) (row : List ℕ) (off size : ℕ) → IsAt row off size → (size ≡ 0 → ⊥) → 2 ^ 64 ≤ base + off → AllByRecursion (EndInside (2 ^ 64)) movis
+    → JudgesEntry movis ss base k row (Err (Astray k))
+judged_far movis ss base k row off size is some past ends =
     let out = far movis (base + off) size (omega arith) ends in
-    judged_astray movis ts base k row off size (in_one movis (base + off) size) (second_lies row) is some refl refl (ap (λ (x : Bool). x && second_lies row) out)
-
--- ---- faults are refusals
-
-two_tests : (at k : ℕ) (astray overlap : Bool) (rest : List Test) (later : Option IndexFault) → first rest ≡ refused at later
-    → first ((astray, IndexAstray at k) ∷ ((overlap, IndexOverlap at) ∷ rest)) ≡ refused at (or_else (if astray then Some (Astray k) else (if overlap then Some (Overlap k) else None)) later)
-two_tests at k true overlap rest later e = refl
-two_tests at k false true rest later e = refl
-two_tests at k false false rest later e = e
-
-pub told : (b : List ℕ) (at base k : ℕ) (rs : List (List ℕ)) → first (entry_tests b at base k rs) ≡ refused at (entries_fault (movi_spans (avi_of b)) (indexes b) base k rs)
-told b at base k [] = refl
-told b at base k (r ∷ rs) =
-    two_tests at k (not (entry_length r == 0) && not (entry_lies (avi_of b) base r)) (not (entry_length r == 0) && not (misses (indexes b) (base + entry_offset r) (entry_length r)))
-    (entry_tests b at base (suc k) rs) (entries_fault (movi_spans (avi_of b)) (indexes b) base (suc k) rs) (told b at base (suc k) rs)
+    judged_astray movis ss base k row off size (in_one movis (base + off) size) (second_lies row) is some refl refl (ap (λ (x : Bool). x && second_lies row) out)

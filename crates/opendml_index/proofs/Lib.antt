@@ -3,3 +3,4 @@ pub mod Rows
 pub mod Judged
 pub mod Left
 pub mod Places
+pub mod Known

@@ -1,19 +1,20 @@
 -- The entries of the standard index at a place.
-use Rattle.std.proofs.Common.{◌≡◌, ◌∙◌, ℕ, ◌+◌, ◌-◌, ◌*◌, ◌<◌, ◌≤◌, Bool, true, false, List, [], ◌∷◌, length, take, drop, refl, sym, ap, subst, arith}
-use Rattle.std.specs.Prelude.{Option, Some, None, not, ◌||◌}
+use Rattle.std.proofs.Common.{◌≡◌, ◌∙◌, ℕ, ◌+◌, ◌*◌, ◌≤◌, Bool, true, false, List, [], ◌∷◌, length, take, drop, refl, sym, ap, subst, arith}
+use Rattle.std.specs.Prelude.{Option, Some, None, ◌||◌}
 use Rattle.std.specs.List.{AllByRecursion}
 use Rattle.std.proofs.lemmas.Bool.{leb-true}
 use Rattle.part_tree.specs.declared.names.Span.{Span}
 use Rattle.container_model.specs.Written.{slice, rows}
 use Rattle.container_model.proofs.Written.{slice_slice, length-slice}
-use Rattle.avi_model.specs.Index.{Table, named, entries, index_base, width, used, is_super}
-use Rattle.avi_model.specs.Support.{SoundIndex, is_standard_kind, is_index_kind, is_super_kind, size_at}
-use Rattle.avi_model.proofs.Entries.{standard_kind, super_kind}
-use Rattle.opendml_index.specs.declared.head.IndexHead.{IndexHead}
+use Rattle.container_model.specs.Tables.{named, size_at}
+use Rattle.opendml_index.specs.Index.{index_base, width, used}
+use Rattle.opendml_index.specs.Kinds.{is_standard_kind, is_index_kind, is_super_kind}
+use Rattle.opendml_index.proofs.Known.{standard_kind, super_kind}
+use Rattle.part_tree.specs.declared.table.IndexHead.{IndexHead}
 use Rattle.opendml_index.specs.declared.head.IndexKind.{IndexKind}
 use Rattle.opendml_index.specs.declared.head.IndexKind.TheVariants.{Super, Standard, TwoFields}
 use Rattle.opendml_index.specs.declared.check.Entries.{Entries}
-use Rattle.opendml_index.specs.Heads.{OfKind, ReadsKind, IsFront, two_fields, longs}
+use Rattle.opendml_index.specs.Heads.{OfKind, IsFront, two_fields}
 use Rattle.opendml_index.specs.Entries.{width_by}
 use Rattle.opendml_index.specs.Checks.{EndInside, IsChunk, EntriesBy, TableAt}
 use Rattle.opendml_index.proofs.Front.{index_front, of_front, front_of, width_is}

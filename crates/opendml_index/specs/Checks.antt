@@ -1,15 +1,16 @@
 -- What is answered of the entries of a standard index: how many are counted, or the first that is refused.
-use Rattle.std.specs.Prelude.{◌≡◌, ◌≤◌, ◌<◌, ℕ, suc, ◌+◌, ◌*◌, ◌==◌, List, [], ◌∷◌, length, drop, Bool, true, false, ◌&&◌, not, Option, Some, None, Result, if◌then◌else◌}
+use Rattle.std.specs.Prelude.{◌≡◌, ◌≤◌, ◌<◌, ℕ, suc, ◌+◌, ◌*◌, ◌==◌, List, [], ◌∷◌, ◌++◌, length, drop, Bool, ◌&&◌, not, Option, Some, None, Result}
 use Rattle.std.specs.declared.result.Result.TheVariants.{Ok, Err}
-use Rattle.container_model.specs.Written.{rows}
 use Rattle.part_tree.specs.declared.names.Span.{Span}
-use Rattle.avi_model.specs.Index.{Table, named, entries, index_base, entry_offset, entry_length, misses}
-use Rattle.avi_model.specs.Support.{SoundIndex, is_standard_kind, in_one, second_lies, size_at}
-use Rattle.avi_model.specs.Map.{count_rows}
-use Rattle.avi_index.specs.Checks.{or_else}
-use Rattle.avi_index.specs.declared.base.IndexFault.{IndexFault}
-use Rattle.avi_index.specs.declared.base.IndexFault.TheVariants.{NoBase, Astray, Overlap, Depot}
-use Rattle.opendml_index.specs.declared.head.IndexHead.{IndexHead}
+use Rattle.part_tree.specs.declared.index.IndexFault.{IndexFault}
+use Rattle.part_tree.specs.declared.index.IndexFault.TheVariants.{NoBase, Astray, Overlap, Depot}
+use Rattle.part_tree.specs.Ranges.{in_one, clear_of}
+use Rattle.container_model.specs.Written.{rows}
+use Rattle.container_model.specs.Tests.{first}
+use Rattle.container_model.specs.Tables.{named, size_at, count_rows}
+use Rattle.opendml_index.specs.Index.{entries, index_base, entry_offset, entry_length}
+use Rattle.opendml_index.specs.Kinds.{SoundIndex, is_standard_kind, second_lies}
+use Rattle.part_tree.specs.declared.table.IndexHead.{IndexHead}
 use Rattle.opendml_index.specs.declared.check.Entries.{Entries}
 use Rattle.opendml_index.specs.Entries.{width_by}
 
@@ -26,29 +27,32 @@ pub record IsChunk (b : List ℕ) (at : ℕ) : Type 0 where
 abbrev pub counts : List ℕ → Bool
 counts r = not (entry_length r == 0)
 
--- The fault of an entry: it doesn't lie in a movi, or its second place not in it, or it has bytes in an index chunk.
-abbrev pub entry_fault : List Span → List Table → ℕ → ℕ → List ℕ → Option IndexFault
-entry_fault movis ts base k r =
-    if not (entry_length r == 0) && not (in_one movis (base + entry_offset r) (entry_length r) && second_lies r) then Some (Astray k)
-    else (if not (entry_length r == 0) && not (misses ts (base + entry_offset r) (entry_length r)) then Some (Overlap k) else None)
+-- an entry's bytes lie inside one movi, and its second place inside the entry
+abbrev pub entry_lies : List Span → ℕ → List ℕ → Bool
+entry_lies movis base r = in_one movis (base + entry_offset r) (entry_length r) && second_lies r
 
--- the first fault of the entries from a number on
-abbrev pub entries_fault : List Span → List Table → ℕ → ℕ → List (List ℕ) → Option IndexFault
-entries_fault movis ts base k [] = None
-entries_fault movis ts base k (r ∷ rs) = or_else (entry_fault movis ts base k r) (entries_fault movis ts base (suc k) rs)
+-- the tests of an entry, from 0: it doesn't lie there, or it has bytes in an index chunk
+abbrev pub entry_tests : List Span → List Span → ℕ → ℕ → List ℕ → List (Bool × IndexFault)
+entry_tests movis ss base k r =
+    (not (entry_length r == 0) && not (entry_lies movis base r), Astray k) ∷ ((not (entry_length r == 0) && not (clear_of ss (base + entry_offset r) (entry_length r)), Overlap k) ∷ [])
+
+-- the tests of the entries from a number on
+abbrev pub entries_tests : List Span → List Span → ℕ → ℕ → List (List ℕ) → List (Bool × IndexFault)
+entries_tests movis ss base k [] = []
+entries_tests movis ss base k (r ∷ rs) = entry_tests movis ss base k r ++ entries_tests movis ss base (suc k) rs
 
 -- what is answered of one entry: whether it is counted
-abbrev pub JudgesEntry : List Span → List Table → ℕ → ℕ → List ℕ → Result Bool IndexFault → Type 0
-JudgesEntry movis ts base k r (Ok counted) = (entry_fault movis ts base k r ≡ None) × (counted ≡ counts r)
-JudgesEntry movis ts base k r (Err fault) = entry_fault movis ts base k r ≡ Some fault
+abbrev pub JudgesEntry : List Span → List Span → ℕ → ℕ → List ℕ → Result Bool IndexFault → Type 0
+JudgesEntry movis ss base k r (Ok counted) = (first (entry_tests movis ss base k r) ≡ None) × (counted ≡ counts r)
+JudgesEntry movis ss base k r (Err fault) = first (entry_tests movis ss base k r) ≡ Some fault
 
 -- what is answered of a standard index: how many entries are counted, or the first fault
-abbrev pub JudgesEntries : List Span → List Table → ℕ → List (List ℕ) → Result ℕ IndexFault → Type 0
-JudgesEntries movis ts base rs (Ok n) = (entries_fault movis ts base 0 rs ≡ None) × (n ≡ count_rows counts rs)
-JudgesEntries movis ts base rs (Err NoBase) = ⊥
-JudgesEntries movis ts base rs (Err (Astray k)) = entries_fault movis ts base 0 rs ≡ Some (Astray k)
-JudgesEntries movis ts base rs (Err (Overlap k)) = entries_fault movis ts base 0 rs ≡ Some (Overlap k)
-JudgesEntries movis ts base rs (Err Depot) = Unit {0}
+abbrev pub JudgesEntries : List Span → List Span → ℕ → List (List ℕ) → Result ℕ IndexFault → Type 0
+JudgesEntries movis ss base rs (Ok n) = (first (entries_tests movis ss base 0 rs) ≡ None) × (n ≡ count_rows counts rs)
+JudgesEntries movis ss base rs (Err NoBase) = ⊥
+JudgesEntries movis ss base rs (Err (Astray k)) = first (entries_tests movis ss base 0 rs) ≡ Some (Astray k)
+JudgesEntries movis ss base rs (Err (Overlap k)) = first (entries_tests movis ss base 0 rs) ≡ Some (Overlap k)
+JudgesEntries movis ss base rs (Err Depot) = Unit {0}
 
 -- ---- where the entries stand
 

@@ -1,9 +1,10 @@
 -- The entries of index chunks (OpenDML 1.02).
-use Rattle.std.specs.Prelude.{◌≡◌, ◌<◌, ◌≤◌, ℕ, ◌+◌, ◌*◌, ◌%◌, ◌^◌, nat_lt, List, length, Bool, true, false, Option, Some, None}
+use Rattle.std.specs.Prelude.{◌≡◌, ◌<◌, ◌≤◌, ℕ, ◌+◌, ◌*◌, ◌^◌, nat_lt, List, length, Bool, true, false, Option, Some, None}
 use Rattle.std.specs.Int.{w32, from_le_bytes}
 use Rattle.container_model.specs.Written.{slice}
-use Rattle.avi_model.specs.Index.{le32_at, le64_at, used, super_place, entry_offset, entry_length, entry_second}
-use Rattle.opendml_index.specs.declared.head.IndexHead.{IndexHead}
+use Rattle.container_model.specs.Tables.{le32_at}
+use Rattle.opendml_index.specs.Index.{used, super_place, entry_offset, entry_length, entry_second}
+use Rattle.part_tree.specs.declared.table.IndexHead.{IndexHead}
 use Rattle.opendml_index.specs.declared.entry.SuperEntry.{SuperEntry}
 use Rattle.opendml_index.specs.declared.entry.StdEntry.{StdEntry}
 
@@ -18,6 +19,7 @@ row_at w body k = slice body (24 + w * k) w
 
 -- ---- super entries
 
+-- the numbers of a super entry
 pub record IsSuper (r : List ℕ) (e : SuperEntry) : Type 0 where
   pub place : e.place ≡ super_place r
   pub size : e.size ≡ le32_at 8 r

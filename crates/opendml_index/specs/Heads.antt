@@ -2,12 +2,11 @@
 use Rattle.std.specs.Prelude.{◌≡◌, ℕ, ◌*◌, List, [], ◌∷◌, Bool, true, false, not, Option, Some, None, Result}
 use Rattle.std.specs.declared.result.Result.TheVariants.{Ok, Err}
 use Rattle.std.specs.Str.{bytes_eq}
-use Rattle.part_tree.specs.declared.why.Why.TheVariants.{IndexKind as KindWhy, IndexShort}
 use Rattle.container_model.specs.Written.{slice}
-use Rattle.avi_model.specs.Index.{is_super, width, index_base, used}
-use Rattle.avi_model.specs.Support.{kind, is_index_kind, is_super_kind}
-use Rattle.avi_model.specs.Why.{first, sound_tests}
-use Rattle.opendml_index.specs.declared.head.IndexHead.{IndexHead}
+use Rattle.container_model.specs.Tests.{first}
+use Rattle.opendml_index.specs.Index.{is_super, width, index_base, used}
+use Rattle.opendml_index.specs.Kinds.{kind, is_index_kind, is_super_kind, has_header, has_entries}
+use Rattle.part_tree.specs.declared.table.IndexHead.{IndexHead}
 use Rattle.opendml_index.specs.declared.head.HeadFault.{HeadFault}
 use Rattle.opendml_index.specs.declared.head.HeadFault.TheVariants.{Short, Wrong}
 use Rattle.opendml_index.specs.declared.head.IndexKind.{IndexKind}
@@ -67,8 +66,11 @@ pub record IsHead (body : List ℕ) (h : IndexHead) : Type 0 where
   pub id : h.id.0 ≡ slice body 8 4
   pub base : h.base ≡ index_base body
 
--- The head, or the first test that holds: the header, the kind, the entries.
+-- the tests of an index chunk: its header is there, it is of a kind, and its entries are there
+abbrev pub head_tests : (List ℕ → Bool) → List ℕ → List (Bool × HeadFault)
+head_tests of_kind body = (not (has_header body), Short) ∷ ((not (of_kind body), Wrong) ∷ ((not (has_entries body), Short) ∷ []))
+
+-- the head, or the first test that holds
 abbrev pub ReadsHead : List ℕ → Result IndexHead HeadFault → Type 0
-ReadsHead body (Ok h) = ((at : ℕ) → first (sound_tests is_index_kind at body) ≡ None) × IsHead body h
-ReadsHead body (Err Short) = (at : ℕ) → first (sound_tests is_index_kind at body) ≡ Some (IndexShort at)
-ReadsHead body (Err Wrong) = (at : ℕ) → first (sound_tests is_index_kind at body) ≡ Some (KindWhy at)
+ReadsHead body (Ok h) = (first (head_tests is_index_kind body) ≡ None) × IsHead body h
+ReadsHead body (Err fault) = first (head_tests is_index_kind body) ≡ Some fault

@@ -1,22 +1,22 @@
 // Whether the entries of a standard index name bytes of the essence, and how many are counted.
-ghost use Rattle.std.specs.Prelude.{◌≡◌, drop, ◌+◌, ◌*◌, ◌-◌, ◌<◌, ◌≤◌, ◌^◌, ℕ, List, IfOk, map, length};
+ghost use Rattle.std.specs.Prelude.{◌≡◌, drop, ◌+◌, ◌*◌, ◌-◌, ◌<◌, ◌≤◌, ◌^◌, ℕ, List, IfOk, length};
 ghost use Rattle.std.specs.List.{AllByRecursion};
 ghost use Rattle.me_disk.specs.Causes.{Rose};
 ghost use Rattle.me_disk.specs.Holds.{Holds, Inside};
 ghost use Rattle.me_disk.specs.Steps.{HasCause, ReadsOnly};
+ghost use Rattle.part_tree.specs.Ranges.{Ascends};
 ghost use Rattle.container_model.specs.Written.{rows, slice};
-ghost use Rattle.avi_model.specs.Index.{Table, entries, index_base, named};
-ghost use Rattle.avi_model.specs.Map.{table_span};
-ghost use Rattle.avi_model.specs.Support.{second_lies as lies_second};
-ghost use Rattle.avi_index.specs.Windows.{IsWindow};
+ghost use Rattle.container_model.specs.Tables.{named};
+ghost use Rattle.opendml_index.specs.Index.{entries, index_base};
+ghost use Rattle.opendml_index.specs.Kinds.{second_lies as lies_second};
+ghost use Rattle.me_disk.specs.Windows.{IsWindow};
 ghost use Rattle.opendml_index.specs.Entries.{IsStandard, SecondAt, width_by};
 ghost use Rattle.opendml_index.specs.Checks.{EndInside, IsChunk, IsTable, JudgesEntries, JudgesEntry, TableAt, EntriesBy};
 
 use crate::entry::{StdEntry, standard_in, width_by_fields, width_of};
-use crate::head::{IndexHead, head_of, kind_in};
-use avi_index::{IndexFault, Window, in_one, is_clear};
-use me_disk::{Depot, DepotFault, Slot};
-use part_tree::Span;
+use crate::head::{head_of, kind_in};
+use me_disk::{Depot, DepotFault, Slot, TableWindow};
+use part_tree::{IndexFault, IndexHead, Span, in_one, is_clear};
 
 /// The entries of a standard index in a file: where the first stands, where the last ends, how many bytes one has, how many
 /// there are, and what their offsets count from.
@@ -52,7 +52,9 @@ fn judge(
     movis: &[Span],
     indexes: &[Span],
 ) -> Result<bool, IndexFault>
-    ensures row { (row : List ℕ) (ts : List Table) → IsStandard row entry.now → map table_span ts ≡ indexes.now → AllByRecursion (EndInside (2 ^ 64)) movis.now → JudgesEntry movis.now ts base k row result }
+    requires indexes_ascend { Ascends 0 indexes.now }
+    requires movis_ascend { Ascends 0 movis.now }
+    ensures row { (row : List ℕ) → IsStandard row entry.now → AllByRecursion (EndInside (2 ^ 64)) movis.now → JudgesEntry movis.now indexes.now base k row result }
     ensures never { result ≡ Err IndexFault.Depot → ⊥ }
 {
     let offset = u64::from(entry.offset);
@@ -77,7 +79,7 @@ fn judge(
 
 // The second field of an entry at a place of a file.
 fn read_second<D: Depot>(
-    window: &mut Window,
+    window: &mut TableWindow,
     depot: &mut D,
     two_fields: bool,
     at: u64,
@@ -102,7 +104,7 @@ fn read_second<D: Depot>(
 
 // The entry at a place of a file.
 fn read_entry<D: Depot>(
-    window: &mut Window,
+    window: &mut TableWindow,
     depot: &mut D,
     two_fields: bool,
     at: u64,
@@ -171,15 +173,17 @@ fn check_entries<D: Depot>(
     movis: &[Span],
     indexes: &[Span],
 ) -> Result<u64, IndexFault>
+    requires indexes_ascend { Ascends 0 indexes.now }
+    requires movis_ascend { Ascends 0 movis.now }
     requires inside { Inside table.end (D.disk depot.old) }
     requires small { table.end < 2 ^ 63 }
     requires rows { table.at + width_by table.two_fields * table.used ≡ table.end }
-    ensures entries { (b : List ℕ) (ts : List Table) → Holds (D.disk depot.old) b → map table_span ts ≡ indexes.now → AllByRecursion (EndInside (2 ^ 64)) movis.now → JudgesEntries movis.now ts table.base (rows (width_by table.two_fields) table.used (drop table.at b)) result }
+    ensures entries { (b : List ℕ) → Holds (D.disk depot.old) b → AllByRecursion (EndInside (2 ^ 64)) movis.now → JudgesEntries movis.now indexes.now table.base (rows (width_by table.two_fields) table.used (drop table.at b)) result }
     ensures reads { ReadsOnly (D.disk depot.old) (D.disk depot.new) }
     ensures cause { result ≡ Err IndexFault.Depot → Rose (D.disk depot.old).faults (D.disk depot.new).faults }
 {
     let width = width_by_fields(table.two_fields);
-    let mut window = Window::new();
+    let mut window = TableWindow::new();
     let mut counted = 0;
     'entries: for k in 0..u64::from(table.used) {
         let entry = match read_entry(
@@ -202,17 +206,19 @@ fn check_entries<D: Depot>(
 
 /// How many entries of the standard index whose header stands at a place are counted. `Astray` tells the first entry that
 /// doesn't lie inside one of `movis`, or whose second place isn't inside it, and `Overlap` the first that has bytes in an
-/// index chunk, whichever comes first. `movis` are the bodies of the lists of that type, `indexes` those of the index chunks.
-/// It takes no memory.
+/// index chunk, whichever comes first. `movis` are the bodies of the lists of that type by place, `indexes` those of the
+/// index chunks; both are searched by halving. It takes no memory.
 pub fn check_standard<D: Depot>(
     depot: &mut D,
     at: u64,
     movis: &[Span],
     indexes: &[Span],
 ) -> Result<u64, IndexFault>
+    requires indexes_ascend { Ascends 0 indexes.now }
+    requires movis_ascend { Ascends 0 movis.now }
     requires told { (b : List ℕ) → Holds (D.disk depot.old) b → IsChunk b at }
     requires movis { (b : List ℕ) → Holds (D.disk depot.old) b → AllByRecursion (EndInside (length b)) movis.now }
-    ensures entries { (b : List ℕ) (ts : List Table) → Holds (D.disk depot.old) b → map table_span ts ≡ indexes.now → JudgesEntries movis.now ts (index_base (named b at).body) (entries (named b at).body) result }
+    ensures entries { (b : List ℕ) → Holds (D.disk depot.old) b → JudgesEntries movis.now indexes.now (index_base (named b at).body) (entries (named b at).body) result }
     ensures reads { ReadsOnly (D.disk depot.old) (D.disk depot.new) }
     ensures cause { result ≡ Err IndexFault.Depot → Rose (D.disk depot.old).faults (D.disk depot.new).faults }
 {

@@ -2,8 +2,8 @@
 ghost use Rattle.std.specs.Prelude.{◌≡◌, ◌+◌, ◌≤◌, length};
 ghost use Rattle.opendml_index.specs.Entries.{IsFields, IsStandard, IsSuper, ReadsStandard, ReadsSuper, SecondAt, width_by};
 
-use crate::head::IndexHead;
 use crate::numbers::le32_in;
+use part_tree::IndexHead;
 
 /// An entry of a super index: the place of an index chunk's header, the size of that chunk in bytes, and how long it lasts.
 /// A place of 0 marks an entry that isn't used.

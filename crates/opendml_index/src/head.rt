@@ -3,19 +3,7 @@ ghost use Rattle.std.specs.Prelude.{◌≡◌};
 ghost use Rattle.opendml_index.specs.Heads.{IsFront, ReadsHead, ReadsKind, longs, standard, two_fields};
 
 use crate::numbers::{four_in, le32_in, le64_in};
-use part_tree::FourCc;
-
-/// What the head of an index chunk tells: how many longs an entry has, whether it has two fields, whether the index is a
-/// standard one, how many entries are in use, whose chunks it names, and what the offsets of a standard index count from.
-#[derive(Clone, Copy, Debug, PartialEq, Eq)]
-pub struct IndexHead {
-    pub longs: u16,
-    pub two_fields: bool,
-    pub standard: bool,
-    pub used: u32,
-    pub id: FourCc,
-    pub base: u64,
-}
+use part_tree::{FourCc, IndexHead};
 
 /// Why the body of an index chunk isn't read.
 #[derive(Clone, Copy, Debug, PartialEq, Eq)]

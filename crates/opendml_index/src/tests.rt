@@ -2,9 +2,8 @@
 use crate::{
     HeadFault, StdEntry, SuperEntry, check_standard, read_head, read_standard, read_super,
 };
-use avi_index::IndexFault;
 use me_disk::{Run, SparseDepot};
-use part_tree::Span;
+use part_tree::{IndexFault, Span};
 use std::alloc::Global;
 use std::test::Fail;
 

@@ -1,5 +1,10 @@
 pub mod Entries
+pub mod Kept
 pub mod Moved
+pub mod Stands
 pub mod Places
+pub mod Plain
+pub mod Relocated
 pub mod Rules
 pub mod Words
+pub mod Spans

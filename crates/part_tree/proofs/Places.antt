@@ -1,5 +1,5 @@
 -- Names at one place of the field order are the same.
-use Rattle.std.proofs.Common.{◌≡◌, ℕ, ◌<◌, ◌≤◌, List, [], ◌∷◌, length, get_or, take, drop, true, refl, sym, ap, ◌∙◌, arith, nat_le, ◌||◌, inl, inr}
+use Rattle.std.proofs.Common.{◌≡◌, ℕ, ◌<◌, ◌≤◌, List, [], ◌∷◌, length, get_or, take, drop, true, refl, sym, ap, ◌∙◌, arith, nat_le, ◌||◌, inl, inr, subst, ◌^◌}
 use Rattle.std.specs.Prelude.{◌⊎◌}
 use Rattle.std.specs.Int.{is_in_range}
 use Rattle.std.specs.Str.{bytes_eq}
@@ -11,9 +11,10 @@ use Rattle.me_bytes.specs.Bytes.{be}
 use Rattle.part_tree.specs.declared.field.BextField.{BextField}
 use Rattle.part_tree.specs.declared.field.BextField.TheVariants.{Description, Originator, OriginatorReference, OriginationDate, OriginationTime, TimeReference, Version, Umid, LoudnessValue, LoudnessRange, MaxTruePeakLevel, MaxMomentaryLoudness, MaxShortTermLoudness, Reserved, CodingHistory}
 use Rattle.part_tree.specs.declared.field.FieldName.{FieldName}
-use Rattle.part_tree.specs.declared.field.FieldName.TheVariants.{Bext, Info, Whole, User}
+use Rattle.part_tree.specs.declared.field.FieldName.TheVariants.{Bext, Info, Whole, User, Key, Stream}
 use Rattle.part_tree.specs.declared.names.FourCc.{FourCc}
 use Rattle.part_tree.specs.Names.{bext_fields, bext_row, info_ids, whole_ids, IsFieldName, is_user_type, field_place, same_name}
+use Rattle.part_tree.proofs.Stands.{key_below, one_key}
 use Rattle.part_tree.proofs.Words.{any_before}
 
 -- the same bytes are equal, and equal bytes are the same
@@ -62,24 +63,46 @@ same_is_equal (Bext a) (Bext b) h = ap Bext (row_injective a b (eqb-true (bext_r
 same_is_equal (Info a) (Info b) h = ap Info (code_equal a b h)
 same_is_equal (Whole a) (Whole b) h = ap Whole (code_equal a b h)
 same_is_equal (User a) (User b) h = ap User (code_equal a b h)
+same_is_equal (Key a) (Key b) h = ap Key (bytes_same a b h)
+same_is_equal (Stream a) (Stream b) h = ap Stream (eqb-true a b h)
 same_is_equal (Bext a) (Info b) h = absurd cc
 same_is_equal (Bext a) (Whole b) h = absurd cc
 same_is_equal (Bext a) (User b) h = absurd cc
+same_is_equal (Bext a) (Key b) h = absurd cc
+same_is_equal (Bext a) (Stream b) h = absurd cc
 same_is_equal (Info a) (Bext b) h = absurd cc
 same_is_equal (Info a) (Whole b) h = absurd cc
 same_is_equal (Info a) (User b) h = absurd cc
+same_is_equal (Info a) (Key b) h = absurd cc
+same_is_equal (Info a) (Stream b) h = absurd cc
 same_is_equal (Whole a) (Bext b) h = absurd cc
 same_is_equal (Whole a) (Info b) h = absurd cc
 same_is_equal (Whole a) (User b) h = absurd cc
+same_is_equal (Whole a) (Key b) h = absurd cc
+same_is_equal (Whole a) (Stream b) h = absurd cc
 same_is_equal (User a) (Bext b) h = absurd cc
 same_is_equal (User a) (Info b) h = absurd cc
 same_is_equal (User a) (Whole b) h = absurd cc
+same_is_equal (User a) (Key b) h = absurd cc
+same_is_equal (User a) (Stream b) h = absurd cc
+same_is_equal (Key a) (Bext b) h = absurd cc
+same_is_equal (Key a) (Info b) h = absurd cc
+same_is_equal (Key a) (Whole b) h = absurd cc
+same_is_equal (Key a) (User b) h = absurd cc
+same_is_equal (Key a) (Stream b) h = absurd cc
+same_is_equal (Stream a) (Bext b) h = absurd cc
+same_is_equal (Stream a) (Info b) h = absurd cc
+same_is_equal (Stream a) (Whole b) h = absurd cc
+same_is_equal (Stream a) (User b) h = absurd cc
+same_is_equal (Stream a) (Key b) h = absurd cc
 
 pub same_refl : (a : FieldName) → same_name a a ≡ true
 same_refl (Bext a) = eq-eqb (bext_row a) (bext_row a) refl
 same_refl (Info a) = bytes_refl a.0
 same_refl (Whole a) = bytes_refl a.0
 same_refl (User a) = bytes_refl a.0
+same_refl (Key a) = bytes_refl a
+same_refl (Stream a) = eq-eqb a a refl
 
 -- ---- one place, one name
 
@@ -159,6 +182,13 @@ one_type a b ha hb e =
     let f = four_numbers p.0 p.1 p.2 p.3 q.0 q.1 q.2 q.3 p.5 p.6 p.7 p.8 q.5 q.6 q.7 q.8 (ap be (sym p.4) ∙ e ∙ ap be q.4) in
     bytes_equal a b (p.4 ∙ (ap (λ (n : ℕ). n ∷ p.1 ∷ p.2 ∷ p.3 ∷ []) f.0 ∙ ap (λ (n : ℕ). q.0 ∷ n ∷ p.2 ∷ p.3 ∷ []) f.1 ∙ ap (λ (n : ℕ). q.0 ∷ q.1 ∷ n ∷ p.3 ∷ []) f.2 ∙ ap (λ (n : ℕ). q.0 ∷ q.1 ∷ q.2 ∷ n ∷ []) f.3) ∙ sym q.4)
 
+user_small : (a : List ℕ) → is_user_type a ≡ true → be a < 2 ^ 32
+user_small a h =
+    let p = four_bytes a h in
+    let small : (x y z w : ℕ) → x < 256 → y < 256 → z < 256 → w < 256 → be (x ∷ y ∷ z ∷ w ∷ []) < 2 ^ 32 = λ x y z w hx hy hz hw. omega arith in
+    let P : List ℕ → Type 0 = λ xs. be xs < 2 ^ 32 in
+    subst P (sym p.4) (small p.0 p.1 p.2 p.3 p.5 p.6 p.7 p.8)
+
 pub place_is_same : (a b : FieldName) → IsFieldName a → IsFieldName b → field_place a ≡ field_place b → same_name a b ≡ true
 place_is_same (Bext a) (Bext b) ha hb e = eq-eqb (bext_row a) (bext_row b) e
 place_is_same (Info a) (Info b) ha hb e = one_number a.0 b.0 info_ids ha hb (omega (arith, e))
@@ -176,3 +206,23 @@ place_is_same (Whole a) (Info b) ha hb e = absurd (omega (arith, e, inside b.0 i
 place_is_same (User a) (Info b) ha hb e = absurd (omega (arith, e, inside b.0 info_ids hb))
 place_is_same (Whole a) (User b) ha hb e = absurd (omega (arith, e, inside a.0 whole_ids ha))
 place_is_same (User a) (Whole b) ha hb e = absurd (omega (arith, e, inside b.0 whole_ids hb))
+place_is_same (Key a) (Key b) ha hb e = bytes_equal a b (one_key a b ha hb (omega (arith, e)))
+place_is_same (Stream a) (Stream b) ha hb e = eq-eqb a b (omega (arith, e))
+place_is_same (Key a) (Stream b) ha hb e = absurd (omega (arith, e, key_below a ha))
+place_is_same (Stream a) (Key b) ha hb e = absurd (omega (arith, e, key_below b hb))
+place_is_same (Bext a) (Key b) ha hb e = absurd (omega (arith, e, row_small a))
+place_is_same (Key a) (Bext b) ha hb e = absurd (omega (arith, e, row_small b))
+place_is_same (Bext a) (Stream b) ha hb e = absurd (omega (arith, e, row_small a))
+place_is_same (Stream a) (Bext b) ha hb e = absurd (omega (arith, e, row_small b))
+place_is_same (Info a) (Key b) ha hb e = absurd (omega (arith, e, inside a.0 info_ids ha))
+place_is_same (Key a) (Info b) ha hb e = absurd (omega (arith, e, inside b.0 info_ids hb))
+place_is_same (Info a) (Stream b) ha hb e = absurd (omega (arith, e, inside a.0 info_ids ha))
+place_is_same (Stream a) (Info b) ha hb e = absurd (omega (arith, e, inside b.0 info_ids hb))
+place_is_same (Whole a) (Key b) ha hb e = absurd (omega (arith, e, inside a.0 whole_ids ha))
+place_is_same (Key a) (Whole b) ha hb e = absurd (omega (arith, e, inside b.0 whole_ids hb))
+place_is_same (Whole a) (Stream b) ha hb e = absurd (omega (arith, e, inside a.0 whole_ids ha))
+place_is_same (Stream a) (Whole b) ha hb e = absurd (omega (arith, e, inside b.0 whole_ids hb))
+place_is_same (User a) (Key b) ha hb e = absurd (omega (arith, e, user_small a.0 ha))
+place_is_same (Key a) (User b) ha hb e = absurd (omega (arith, e, user_small b.0 hb))
+place_is_same (User a) (Stream b) ha hb e = absurd (omega (arith, e, user_small a.0 ha))
+place_is_same (Stream a) (User b) ha hb e = absurd (omega (arith, e, user_small b.0 hb))

@@ -1,9 +1,9 @@
--- The kind of a file, by its first 12 bytes (RIFF; EBU Tech 3306; QuickTime File Format).
+-- The kind of a file, by its first 12 bytes (RIFF; EBU Tech 3306; ITU-R BS.2088; QuickTime File Format).
 use Rattle.std.specs.Prelude.{ℕ, List, [], ◌∷◌, take, drop, Bool, ◌&&◌, if◌then◌else◌, Option, Some, None, codes}
 use Rattle.std.specs.Str.{bytes_eq}
 use Rattle.std.specs.List.{list_any}
 use Rattle.part_tree.specs.declared.names.Kind.{Kind}
-use Rattle.part_tree.specs.declared.names.Kind.TheVariants.{Wave, Rf64, Avi, Mov}
+use Rattle.part_tree.specs.declared.names.Kind.TheVariants.{Wave, Rf64, Bw64, Avi, Mov}
 
 -- a form of an identifier and a type
 abbrev pub is_form_of : List ℕ → List ℕ → List ℕ → Bool
@@ -22,5 +22,6 @@ abbrev pub kind : List ℕ → Option Kind
 kind first =
     if is_form_of (codes "RIFF") (codes "WAVE") first then Some Wave
     else (if is_form_of (codes "RF64") (codes "WAVE") first then Some Rf64
+    else (if is_form_of (codes "BW64") (codes "WAVE") first then Some Bw64
     else (if is_form_of (codes "RIFF") (codes "AVI ") first then Some Avi
-    else (if is_movie first then Some Mov else None)))
+    else (if is_movie first then Some Mov else None))))

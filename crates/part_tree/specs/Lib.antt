@@ -1,8 +1,15 @@
 pub mod Fields
+pub mod Keys
 pub mod Kinds
+pub mod Large
 pub mod Letters
 pub mod Moves
 pub mod Names
+pub mod Order
+pub mod Parts
 pub mod Patches
 pub mod Plans
+pub mod Ranges
 pub mod Shows
+pub mod Stands
+pub mod Tables

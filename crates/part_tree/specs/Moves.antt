@@ -10,6 +10,10 @@ Move = Span × ℕ
 abbrev pub holds : Span → ℕ → Bool
 holds s at = nat_le s.at at && nat_lt at (s.at + s.len)
 
+-- the new place of a place that this range holds
+abbrev pub place_by : Move → ℕ → Option ℕ
+place_by m at = if holds m.0 at then Some (m.1 + (at - m.0.at)) else None
+
 -- the new place of a place: the new start of the range that holds it, and the distance into the range
 abbrev pub place : List Move → ℕ → Option ℕ
 place [] at = None

@@ -1,5 +1,6 @@
--- The names of fields, and their order: `bext` by EBU Tech 3285, INFO by RIFF, then whole chunks and user data.
-use Rattle.std.specs.Prelude.{ℕ, zero, suc, get_or, ◌+◌, List, [], ◌∷◌, ◌++◌, map, length, take, drop, Bool, true, false, ◌&&◌, ◌==◌, codes, IsTrue}
+-- The names of fields, and their order: `bext` by EBU Tech 3285, INFO by RIFF, whole chunks, QuickTime's user data and keys,
+-- and the names of AVI streams.
+use Rattle.std.specs.Prelude.{ℕ, zero, suc, get_or, ◌+◌, ◌^◌, nat_lt, List, [], ◌∷◌, ◌++◌, map, length, take, drop, Bool, true, false, ◌&&◌, ◌==◌, codes, IsTrue}
 use Rattle.std.specs.Str.{bytes_eq}
 use Rattle.std.specs.List.{list_any, list_all, position_or_len}
 use Rattle.std.specs.Char.{is_ascii_alphanumeric}
@@ -8,7 +9,8 @@ use Rattle.part_tree.specs.Letters.{four}
 use Rattle.part_tree.specs.declared.field.BextField.{BextField}
 use Rattle.part_tree.specs.declared.field.BextField.TheVariants.{Description, Originator, OriginatorReference, OriginationDate, OriginationTime, TimeReference, Version, Umid, LoudnessValue, LoudnessRange, MaxTruePeakLevel, MaxMomentaryLoudness, MaxShortTermLoudness, Reserved, CodingHistory}
 use Rattle.part_tree.specs.declared.field.FieldName.{FieldName}
-use Rattle.part_tree.specs.declared.field.FieldName.TheVariants.{Bext, Info, Whole, User}
+use Rattle.part_tree.specs.declared.field.FieldName.TheVariants.{Bext, Info, Whole, User, Key, Stream}
+use Rattle.part_tree.specs.Keys.{filled, is_key_name}
 
 -- the fields of bext in their order (EBU Tech 3285, section 2.3)
 abbrev pub bext_fields : List BextField
@@ -50,21 +52,26 @@ is_field_name (Bext field) = true
 is_field_name (Info id) = list_any (bytes_eq id.0) info_ids
 is_field_name (Whole id) = list_any (bytes_eq id.0) whole_ids
 is_field_name (User id) = is_user_type id.0
+is_field_name (Key name) = is_key_name name
+is_field_name (Stream n) = nat_lt n (2 ^ 32)
 
 -- a fact: it is the name of a field
 abbrev pub IsFieldName : FieldName → Type 0
 IsFieldName name = IsTrue (is_field_name name)
 
--- the names of fields without those of user data, in field order
+-- the names of fields that are few, in field order: those before user data
 abbrev pub field_names : List FieldName
 field_names = map Bext bext_fields ++ (map (λ id. Info (four id)) info_ids ++ map (λ id. Whole (four id)) whole_ids)
 
--- Where a name stands in field order: first bext, then INFO, then the whole chunks, then user types by their bytes.
+-- Where a name stands in field order: first bext, then INFO, then the whole chunks, then user types by their bytes, then
+-- keys by their bytes, and last the streams by their numbers. A key's place is the number that its 255 bytes spell.
 abbrev pub field_place : FieldName → ℕ
 field_place (Bext field) = bext_row field
 field_place (Info id) = 15 + position_or_len (bytes_eq id.0) info_ids
 field_place (Whole id) = 32 + position_or_len (bytes_eq id.0) whole_ids
 field_place (User id) = 36 + be id.0
+field_place (Key name) = 36 + 2 ^ 32 + be (filled name)
+field_place (Stream n) = 36 + 2 ^ 32 + 256 ^ 255 + n
 
 -- whether two names are the same
 abbrev pub same_name : FieldName → FieldName → Bool
@@ -72,6 +79,8 @@ same_name (Bext a) (Bext b) = bext_row a == bext_row b
 same_name (Info a) (Info b) = bytes_eq a.0 b.0
 same_name (Whole a) (Whole b) = bytes_eq a.0 b.0
 same_name (User a) (User b) = bytes_eq a.0 b.0
+same_name (Key a) (Key b) = bytes_eq a b
+same_name (Stream a) (Stream b) = a == b
 same_name _ _ = false
 
 -- ---- the names of rules

@@ -36,15 +36,19 @@ abbrev pub Touches : ℕ → List Patch → Type 0
 Touches q [] = ⊥
 Touches q (p ∷ ps) = ((p.at ≤ q) × (q < end_of p)) ⊎ Touches q ps
 
--- what patches that make a file of one length into one of another must meet; each journal's patches do
+-- what patches that make a file of one length into one of another must meet, however many they are
 pub record Rules (old new : ℕ) (ps : List Patch) : Type 0 where
   pub old_fits : old < 2 ^ 63
   pub new_fits : new < 2 ^ 63
-  pub few : length ps ≤ most_patches
   pub order : InOrder new 0 ps
   pub small : all_bytes ps ≤ most_bytes
   -- each place past the old end is in a patch
   pub whole : (q : ℕ) → old ≤ q → q < new → Touches q ps
+
+-- what the patches of an edit in place must meet: the same, and they are not too many
+pub record FewRules (old new : ℕ) (ps : List Patch) : Type 0 where
+  pub few : length ps ≤ most_patches
+  pub rules : Rules old new ps
 
 -- ---- the file that they make
 

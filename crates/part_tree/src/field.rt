@@ -1,11 +1,13 @@
 // The names of fields, the items of an edit, and the rules' sets.
-ghost use Rattle.std.specs.Prelude.{◌≡◌, ◌+◌, ◌<◌, ◌≤◌, ◌^◌, length, List, ℕ, IfOk};
+ghost use Rattle.std.specs.Prelude.{◌≡◌, ◌+◌, ◌<◌, ◌≤◌, ◌^◌, length, List, [], ℕ, IfOk, nat_lt};
 ghost use Rattle.std.specs.List.{position_or_len};
 ghost use Rattle.std.specs.Str.{bytes_eq};
 ghost use Rattle.me_bytes.specs.Bytes.{be};
 ghost use Rattle.part_tree.specs.Names.{bext_row, field_place, is_field_name, is_user_type, named_rule, same_name};
+ghost use Rattle.part_tree.specs.Stands.{Stands};
 
 use crate::bytes::Bytes;
+use crate::key::{KeyName, is_key};
 use crate::names::FourCc;
 use me_bytes::{NoMemory, be32_at};
 use std::alloc::Global;
@@ -83,6 +85,10 @@ pub enum FieldName {
     Whole(FourCc),
     /// An item of QuickTime's user data, by its type.
     User(FourCc),
+    /// A key of QuickTime's metadata, by its name.
+    Key(KeyName),
+    /// The name of a stream of an AVI file, by the stream's number from 0.
+    Stream(u32),
 }
 
 /// The children of a `LIST` of type `INFO` that are fields, in field order.
@@ -129,16 +135,48 @@ fn position_of(id: &FourCc, ids: &[FourCc]) -> usize
     k
 }
 
+// The place of all keys, behind every user type.
+const KEYS_AT: u64 = 36 + (1 << 32);
+
+// Where a name stands in field order: a number, and among keys their bytes.
+#[derive(Clone, Copy)]
+struct Stand<'a> {
+    number: u64,
+    key: &'a [u8],
+}
+
+impl Stand<'_> {
+    fn at(number: u64) -> Self
+        ensures number { result.number ≡ number }
+        ensures key { result.key.now ≡ [] }
+    {
+        Stand { number, key: &[] }
+    }
+}
+
 impl FieldName {
-    /// Where the name stands in field order.
-    pub fn place(&self) -> u64
-        ensures { result ≡ field_place self.now }
+    /// Whether the name stands before another in field order.
+    pub fn is_before(&self, other: &FieldName) -> bool
+        ensures { result ≡ nat_lt (field_place self.now) (field_place other.now) }
+    {
+        let (a, b) = (self.stand(), other.stand());
+        a.number < b.number || (a.number == b.number && a.key < b.key)
+    }
+
+    // Where the name stands in field order.
+    fn stand(&self) -> Stand<'_>
+        ensures { Stands self.now result.number result.key.now }
     {
         match self {
-            FieldName::Bext(field) => u64::from(field.row()),
-            FieldName::Info(id) => 15 + position_of(id, &INFO_IDS) as u64,
-            FieldName::Whole(id) => 32 + position_of(id, &WHOLE_IDS) as u64,
-            FieldName::User(id) => 36 + user_place(id),
+            FieldName::Bext(field) => Stand::at(u64::from(field.row())),
+            FieldName::Info(id) => Stand::at(15 + position_of(id, &INFO_IDS) as u64),
+            FieldName::Whole(id) => Stand::at(32 + position_of(id, &WHOLE_IDS) as u64),
+            FieldName::User(id) => Stand::at(36 + user_place(id)),
+            FieldName::Key(key) => Stand {
+                number: KEYS_AT,
+                key: key.as_slice(),
+            },
+            FieldName::Stream(n) => Stand::at(KEYS_AT + 1 + u64::from(*n)),
         }
     }
 
@@ -151,6 +189,8 @@ impl FieldName {
             (FieldName::Info(a), FieldName::Info(b)) => a.is(&b.0),
             (FieldName::Whole(a), FieldName::Whole(b)) => a.is(&b.0),
             (FieldName::User(a), FieldName::User(b)) => a.is(&b.0),
+            (FieldName::Key(a), FieldName::Key(b)) => a.as_slice() == b.as_slice(),
+            (FieldName::Stream(a), FieldName::Stream(b)) => a == b,
             _ => false,
         }
     }
@@ -164,6 +204,8 @@ impl FieldName {
             FieldName::Info(id) => position_of(id, &INFO_IDS) < INFO_IDS.len(),
             FieldName::Whole(id) => position_of(id, &WHOLE_IDS) < WHOLE_IDS.len(),
             FieldName::User(id) => is_user(id),
+            FieldName::Key(key) => is_key(key.as_slice()),
+            FieldName::Stream(n) => u64::from(*n) < 1 << 32,
         }
     }
 }

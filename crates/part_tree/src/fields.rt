@@ -1,5 +1,5 @@
 // The fields of a file.
-ghost use Rattle.std.specs.Prelude.{◌≡◌, ◌<◌, ◌≤◌, ℕ, ◌++◌, ◌∷◌, [], length, nat_le, IfOk, OnOk, OnErr, slice_get, option_copied, is_ok, if◌then◌else◌};
+ghost use Rattle.std.specs.Prelude.{◌≡◌, ◌<◌, ◌≤◌, ◌^◌, ℕ, ◌++◌, ◌∷◌, [], length, nat_le, IfOk, OnOk, OnErr, slice_get, option_copied, is_ok, if◌then◌else◌};
 ghost use Rattle.std.specs.List.{position_or_len};
 ghost use Rattle.part_tree.specs.Fields.{values, names, IsMap, Adds, Replaces, listed};
 ghost use Rattle.part_tree.specs.Names.{IsFieldName, field_place};
@@ -199,9 +199,13 @@ impl Fields {
     pub fn name_at(&self, k: usize) -> Option<&FieldName>
         ensures name { option_copied result ≡ slice_get (names self.now) k }
         ensures order { IsMap self.now }
+        ensures few { length (names self.now) < 2 ^ 64 }
     {
-        let entry = self.entries.get(k)?;
-        Some(&entry.name)
+        if k < self.entries.len() {
+            Some(&self.entries[k].name)
+        } else {
+            None
+        }
     }
 }
 
@@ -210,10 +214,9 @@ fn entries_before(entries: &[Entry], name: &FieldName) -> usize
     ensures count { result ≡ position_or_len (λ e. nat_le (field_place name.now) (field_place e.name)) entries.now }
     ensures bound { result ≤ length entries.now }
 {
-    let place = name.place();
     let mut k = 0;
     for entry in entries {
-        if entry.name.place() >= place {
+        if !entry.name.is_before(name) {
             return k;
         }
         k += 1;

@@ -13,6 +13,8 @@ pub fn kind_of(first: &[u8]) -> Option<Kind>
         Some(Kind::Wave)
     } else if is_form(first, b"RF64", b"WAVE") {
         Some(Kind::Rf64)
+    } else if is_form(first, b"BW64", b"WAVE") {
+        Some(Kind::Bw64)
     } else if is_form(first, b"RIFF", b"AVI ") {
         Some(Kind::Avi)
     } else if begins_movie(first) {

@@ -5,12 +5,16 @@
 mod bytes;
 mod field;
 mod fields;
+mod index;
+mod key;
 mod kind;
 mod moves;
 mod names;
 mod part;
 mod plan;
+mod ranges;
 mod shows;
+mod table;
 #[cfg(test)]
 mod tests;
 mod why;
@@ -21,11 +25,15 @@ pub use field::{
     is_user, rule_name,
 };
 pub use fields::{Entry, Fields, Values};
+pub use index::IndexFault;
+pub use key::{KeyName, MOST_KEY_BYTES, is_key};
 pub use kind::kind_of;
 pub use me_bytes::NoMemory;
 pub use moves::Moves;
 pub use names::{FourCc, Kind, Span};
 pub use part::{Part, Role};
-pub use plan::{Patch, Patches, Plan, Segment, Segments};
+pub use plan::{Patch, Patches, Plan, PlanFault, Segment, Segments};
+pub use ranges::{in_one, is_clear, is_head, lies_in};
 pub use shows::{Shows, Track};
+pub use table::{Base, IndexHead, TableForm};
 pub use why::{ReadFault, Why};

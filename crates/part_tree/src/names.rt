@@ -23,13 +23,15 @@ pub struct Span {
     pub len: u64,
 }
 
-/// The four kinds of files.
+/// The five kinds of files.
 #[derive(Clone, Copy, Debug, PartialEq, Eq)]
 pub enum Kind {
     /// RIFF of type WAVE.
     Wave,
     /// RF64 of type WAVE (EBU Tech 3306).
     Rf64,
+    /// BW64 of type WAVE (ITU-R BS.2088).
+    Bw64,
     /// RIFF of type AVI.
     Avi,
     /// A QuickTime movie.

@@ -2,7 +2,9 @@
 ghost use Rattle.std.specs.Prelude.{◌≡◌};
 
 use crate::bytes::Bytes;
+use crate::moves::Moves;
 use crate::names::Span;
+use crate::table::TableForm;
 use std::marker::Model;
 
 /// Bytes for a place.
@@ -12,11 +14,17 @@ pub struct Patch {
     pub bytes: Bytes,
 }
 
-/// A part of a new file: a range of the old one, or these bytes.
+/// A part of a new file: a range of the old one, these bytes, or so many rows of a table that begins at a place of the old
+/// one, each with the places that it names moved.
 #[derive(Drop)]
 pub enum Segment {
     Copy(Span),
     Literal(Bytes),
+    Table {
+        form: TableForm,
+        from: u64,
+        rows: u64,
+    },
 }
 
 /// Patches, seen as the list of them.
@@ -77,7 +85,7 @@ impl Segments {
     }
 }
 
-/// Patches in place, or a new file.
+/// Patches in place, or a new file, for which its tables tell where the places of the old one go.
 #[derive(Drop)]
 pub enum Plan {
     InPlace {
@@ -87,6 +95,17 @@ pub enum Plan {
     },
     Rewrite {
         new_len: u64,
+        moves: Moves,
         segments: Segments,
     },
+}
+
+/// Why an edit isn't planned.
+#[derive(Clone, Copy, Debug, PartialEq, Eq)]
+pub enum PlanFault {
+    /// A size of the new file passes its limit: bytes, or parts.
+    TooLarge { size: u64, limit: u64 },
+    /// The depot failed.
+    Depot,
+    Memory,
 }

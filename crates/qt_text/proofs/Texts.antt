@@ -1,5 +1,5 @@
 -- Texts, one after the other.
-use Rattle.std.proofs.Common.{◌≡◌, ◌≢◌, ℕ, zero, suc, ◌+◌, ◌^◌, ◌<◌, ◌≤◌, Bool, true, false, ltb, List, [], ◌∷◌, ◌++◌, length, take, drop, get_or, refl, sym, ap, ◌∙◌, append_assoc, arith, Option, Some, None, length-drop, length-append}
+use Rattle.std.proofs.Common.{◌≡◌, ◌≢◌, ℕ, zero, suc, ◌+◌, ◌^◌, ◌<◌, ◌≤◌, Bool, true, false, ltb, List, [], ◌∷◌, ◌++◌, length, take, drop, get_or, refl, sym, ap, ◌∙◌, append_assoc, arith, Option, Some, None, length-drop}
 use Rattle.std.specs.Prelude.{if◌then◌else◌}
 use Rattle.std.specs.Int.{w16, from_be_bytes, to_be_bytes}
 use Rattle.std.specs.List.{AllByRecursion, flat_map}
@@ -10,7 +10,7 @@ use Rattle.me_bytes.specs.Bytes.{IsBytes}
 use Rattle.container_model.proofs.Codec.{IsBytes-drop}
 use Rattle.container_model.proofs.Fronts.{IsBytes-take}
 use Rattle.part_tree.specs.declared.field.Value.{Value}
-use Rattle.mov_model.specs.User.{TextFits, found, text_bytes, text_language, text_size, text_then, texts, texts_in, with_text}
+use Rattle.qt_text.specs.User.{TextFits, found, text_bytes, text_language, text_size, text_then, texts, texts_in, with_text}
 use Rattle.qt_text.specs.Texts.{text_len_of}
 
 -- the text at the front

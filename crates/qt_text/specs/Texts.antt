@@ -1,7 +1,7 @@
 -- What is read of the body of a user item (QuickTime File Format, user data).
 use Rattle.std.specs.Prelude.{◌≡◌, ◌≢◌, ℕ, ◌+◌, List, [], length, nat_lt, Option, Some, None, if◌then◌else◌}
 use Rattle.part_tree.specs.declared.field.Value.{Value}
-use Rattle.mov_model.specs.User.{text_size, texts}
+use Rattle.qt_text.specs.User.{text_size, texts}
 
 -- these are the texts that fill the body, and there is one
 pub record AreTexts (body : List ℕ) (values : List Value) : Type 0 where

@@ -7,8 +7,8 @@ ghost use Rattle.std.specs.Int.{w16, w32, from_be_bytes, to_be_bytes};
 ghost use Rattle.std.specs.List.{AllByRecursion, flat_map};
 ghost use Rattle.me_bytes.specs.Bytes.{IsBytes};
 ghost use Rattle.container_model.specs.Chunk.{spell};
-ghost use Rattle.mov_model.specs.Atoms.{atom};
-ghost use Rattle.mov_model.specs.User.{TextFits, text_bytes, text_language, texts};
+ghost use Rattle.container_model.specs.Atoms.{atom};
+ghost use Rattle.qt_text.specs.User.{TextFits, text_bytes, text_language, texts};
 ghost use Rattle.part_tree.specs.declared.field.Value.{Value as Text};
 ghost use Rattle.qt_text.specs.Texts.{AreTexts, text_len_of};
 

@@ -9,9 +9,12 @@ use Rattle.me_disk.specs.Calls.Call.{DropWork}
 use Rattle.me_disk.proofs.Runs.{Leaves-trans, Leaves-does, same_image}
 use Rattle.edit_journal.specs.Settled.{SettlesAs, Settles, StandsAlone, IsDamaged}
 use Rattle.edit_journal.specs.Damage.{damage_over}
+use Rattle.edit_journal.specs.Strips.{laid_by}
+use Rattle.edit_journal.specs.Journal.{version_of}
 use Rattle.edit_journal.specs.Reads.{IsSoundHead}
 use Rattle.edit_journal.specs.declared.fault.JournalHead.{JournalHead}
-use Rattle.edit_journal.proofs.Laws.{damage_unsettles}
+use Rattle.edit_journal.proofs.Walk.{damage_unsettles}
+use Rattle.edit_journal.proofs.Laws.{journal_of}
 use Rattle.recovery.specs.Redo.{Redo, IsRedo, made, SettlesAlike}
 use Rattle.recovery.specs.Recovered.{IsBroken, IsRedone, Recovers}
 use Rattle.part_tree.specs.Patches.{laid}
@@ -63,17 +66,16 @@ plain_done a c x law_a law_c none only does = record {
 
 -- a call on `Work` alone leaves what the entry stands for
 pub plain_leaves : (a c : Disk) (r : Result Unit DepotFault) → Only (read_as a.slots) a → Does DropWork a c r → Leaves (SettlesAlike (read_as a.slots)) a c
-plain_leaves a c r only does = Leaves-does (SettlesAlike (read_as a.slots)) DropWork a c r does (λ i h. subst (SettlesAlike (read_as a.slots)) (sym (only i (does.quiet.images i h))) (λ file is. is))
+plain_leaves a c r only does = Leaves-does (SettlesAlike (read_as a.slots)) DropWork a c r does (λ i j h same. subst (SettlesAlike (read_as a.slots)) (sym (same ∙ only j h)) (λ file is. is))
 
 pub redo_leaves : (w : Redo) (a b c : Disk) (r : Result Unit DepotFault) → IsLawful b → b.tells ≡ a.tells → w.entry ≡ read_as a.slots → (IsTrue a.tells → IsRedo w) → Only (plain (Some (made w))) b → Leaves (SettlesAlike w.entry) a b → Does DropWork b c r
     → Leaves (SettlesAlike (read_as a.slots)) a c
 redo_leaves w a b c r law same entry redo only before does =
     subst (λ (e : Image). Leaves (SettlesAlike e) a c) entry
     (Leaves-trans (SettlesAlike w.entry) a b c before
-    (Leaves-does (SettlesAlike w.entry) DropWork b c r does (λ i h.
-    let was = does.quiet.images i h in
-    let known = redo (sym same ∙ law.told i was) in
-    alike w.entry i (Some (made w)) (entry_settles w known) (subst (Settles (Some (made w))) (sym (only i was)) refl))))
+    (Leaves-does (SettlesAlike w.entry) DropWork b c r does (λ i j h step.
+    let known = redo (sym same ∙ law.told j h) in
+    alike w.entry i (Some (made w)) (entry_settles w known) (subst (Settles (Some (made w))) (sym (step ∙ only j h)) refl))))
 
 -- what was read before leaves the entry as it was
 pub reads_done : (a b c : Disk) → ReadsOnly a b → Recovers b c → Recovers a c
@@ -103,13 +105,13 @@ broken_found a b at reads file journal broken =
 -- an image of a sound journal stands for a file
 pub sound_settles : (a : Disk) (h : JournalHead) → IsSome a.slots.journal → IsSoundHead h a.slots → IsDamaged (read_as a.slots) → ⊥
 sound_settles a h journal sound damaged =
-    damaged (Some (laid h.new_len sound.patches (bytes_of a.slots.main)))
-    (subst (λ (m : Option (List ℕ)). SettlesAs m a.slots.journal (Some (laid h.new_len sound.patches (bytes_of a.slots.main)))) (sym (there a.slots.main sound.there))
-    (subst (λ (j : Option (List ℕ)). SettlesAs (Some (bytes_of a.slots.main)) j (Some (laid h.new_len sound.patches (bytes_of a.slots.main)))) (sym (there a.slots.journal journal))
-    (record { old = h.old_len; new = h.new_len; patches = sound.patches; journal = sound.journal; long = sound.long; is = refl })))
+    damaged (Some (laid h.new_len (laid_by sound.strips) (bytes_of a.slots.main)))
+    (subst (λ (m : Option (List ℕ)). SettlesAs m a.slots.journal (Some (laid h.new_len (laid_by sound.strips) (bytes_of a.slots.main)))) (sym (there a.slots.main sound.there))
+    (subst (λ (j : Option (List ℕ)). SettlesAs (Some (bytes_of a.slots.main)) j (Some (laid h.new_len (laid_by sound.strips) (bytes_of a.slots.main)))) (sym (there a.slots.journal journal))
+    (record { old = h.old_len; new = h.new_len; patches = laid_by sound.strips; journal = journal_of (version_of h.version) (bytes_of a.slots.journal) h.old_len h.new_len sound.strips sound.journal; long = sound.long; is = refl })))
 
 pub plain_settles : (a : Disk) → a.slots.journal ≡ None → IsDamaged (read_as a.slots) → ⊥
 plain_settles a none damaged = damaged a.slots.main (subst (λ (j : Option (List ℕ)). SettlesAs a.slots.main j a.slots.main) (sym none) refl)
 
 pub redone_found : (a : Disk) (h : JournalHead) → IsSome a.slots.journal → IsSoundHead h a.slots → damage_over a.slots.main (bytes_of a.slots.journal) ≡ None → IsRedone a.slots h.new_len
-redone_found a h journal sound whole = record { file = sound.there; journal = journal; old = h.old_len; patches = sound.patches; is = sound.journal; undamaged = whole }
+redone_found a h journal sound whole = record { file = sound.there; journal = journal; old = h.old_len; patches = laid_by sound.strips; is = journal_of (version_of h.version) (bytes_of a.slots.journal) h.old_len h.new_len sound.strips sound.journal; undamaged = whole }

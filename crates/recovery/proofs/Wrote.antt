@@ -6,18 +6,19 @@ use Rattle.me_disk.specs.declared.depot.DepotFault.{DepotFault}
 use Rattle.part_tree.specs.declared.plan.Patch.{Patch}
 use Rattle.me_disk.specs.Disk.{Disk, read_as, bytes_of}
 use Rattle.me_disk.specs.Steps.{Writes, ReadsOnly}
+use Rattle.edit_journal.specs.Strips.{Strip, laid_by}
 use Rattle.edit_journal.specs.Journal.{Journal}
 use Rattle.edit_journal.specs.Damage.{test, first, unless, lacks, number, damage, damage_over}
 use Rattle.edit_journal.specs.Patches.{patches_in}
 use Rattle.edit_journal.specs.declared.next.Cursor.{Cursor}
 use Rattle.edit_journal.specs.declared.next.PatchAt.{PatchAt}
 use Rattle.edit_journal.specs.Cursors.{IsNext}
-use Rattle.edit_journal.proofs.Laws.{journal_patches, whole_damage}
-use Rattle.edit_journal.proofs.Walk.{over_whole}
+use Rattle.edit_journal.proofs.Laws.{journal_bytes}
+use Rattle.edit_journal.proofs.Walk.{over_whole, whole_damage}
 use Rattle.recovery.specs.declared.whole.Recovered.{Recovered}
 use Rattle.recovery.specs.declared.whole.RecoverFault.{RecoverFault}
 use Rattle.recovery.specs.declared.whole.RecoverFault.TheVariants.{NoFile, Damaged, Depot}
-use Rattle.recovery.specs.Redo.{Redo, Lefts}
+use Rattle.recovery.specs.Redo.{patches_of, Redo, Lefts}
 use Rattle.recovery.specs.Recovered.{OnRecoverDamage, IsBroken, bytes_over, bytes_to_redo, RecoverWrites}
 use Rattle.part_tree.specs.Patches.{all_bytes}
 
@@ -38,18 +39,18 @@ writes_late n a b c (Err e) same p = record { least = omega (arith, p.least, sam
 
 -- ---- while the patches are laid
 
-next_most : (q : PatchAt) (ps : List Patch) (j : List ℕ) (c : Cursor) → IsNext (Some q) ps j c → q.len ≤ all_bytes ps
+next_most : (q : PatchAt) (ps : List Strip) (j : List ℕ) (c : Cursor) → IsNext (Some q) ps j c → q.len ≤ all_bytes (laid_by ps)
 next_most q [] j c next = absurd next
 next_most q (p ∷ ps) j c next = let len = next.0.len in omega arith
 
-pub left_most : (w : Redo) (c c' : Cursor) (q : PatchAt) (before : ℕ) (d : Disk) (l : Lefts w c before d) → IsNext (Some q) l.left w.journal c' → d.written + q.len ≤ before + all_bytes w.patches
+pub left_most : (w : Redo) (c c' : Cursor) (q : PatchAt) (before : ℕ) (d : Disk) (l : Lefts w c before d) → IsNext (Some q) l.left w.journal c' → d.written + q.len ≤ before + all_bytes (patches_of w)
 left_most w c c' q before d l next = let h = next_most q l.left w.journal c' next in omega (arith, h, l.written)
 
-pub laying_failed : (w : Redo) (c : Cursor) (a d d' : Disk) (e : DepotFault) → a.written ≤ d.written → Lefts w c a.written d → d'.written ≡ d.written → Writes {T = Unit {0}} (all_bytes w.patches) a d' (Err e)
+pub laying_failed : (w : Redo) (c : Cursor) (a d d' : Disk) (e : DepotFault) → a.written ≤ d.written → Lefts w c a.written d → d'.written ≡ d.written → Writes {T = Unit {0}} (all_bytes (patches_of w)) a d' (Err e)
 laying_failed w c a d d' e least l same = record { least = omega (arith, least, same); most = omega (arith, l.written, same); exact = tt }
 
 pub patch_failed : (w : Redo) (c c' : Cursor) (q : PatchAt) (a d d' d'' : Disk) (e : DepotFault) → a.written ≤ d.written → (l : Lefts w c a.written d) → IsNext (Some q) l.left w.journal c' → d'.written ≡ d.written
-    → Writes {T = Unit {0}} q.len d' d'' (Err e) → Writes {T = Unit {0}} (all_bytes w.patches) a d'' (Err e)
+    → Writes {T = Unit {0}} q.len d' d'' (Err e) → Writes {T = Unit {0}} (all_bytes (patches_of w)) a d'' (Err e)
 patch_failed w c c' q a d d' d'' e least l next same far =
     let h = left_most w c c' q a.written d l next in
     record { least = omega (arith, least, same, far.least); most = omega (arith, h, same, far.most); exact = tt }
@@ -59,7 +60,7 @@ patch_failed w c c' q a d d' d'' e least l next same far =
 pub redo_bytes : (m : Option (List ℕ)) (j : Option (List ℕ)) (old new : ℕ) (ps : List Patch) → IsSome j → Journal (bytes_of j) old new ps → damage_over m (bytes_of j) ≡ None → bytes_over m j ≡ all_bytes ps
 redo_bytes m None old new ps there journal whole = absurd cc
 redo_bytes m (Some j) old new ps there journal whole =
-    ap (λ (d : Option ℕ). if is_some d then 0 else all_bytes (patches_in j)) whole ∙ ap all_bytes (journal_patches j old new ps journal)
+    ap (λ (d : Option ℕ). if is_some d then 0 else all_bytes (patches_in j)) whole ∙ journal_bytes j old new ps journal
 
 pub broken_bytes : (m : Option (List ℕ)) (j : Option (List ℕ)) (at : ℕ) → damage_over m (bytes_of j) ≡ Some at → bytes_over m j ≡ 0
 broken_bytes m None at broken = refl

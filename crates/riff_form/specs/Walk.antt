@@ -2,7 +2,7 @@
 use Rattle.std.specs.Prelude.{◌≡◌, ℕ, ◌+◌, ◌-◌, ◌%◌, ◌≤◌, min, List, length, drop}
 use Rattle.std.specs.declared.option.Option.{Option}
 use Rattle.std.specs.declared.option.Option.TheVariants.{Some, None}
-use Rattle.container_model.specs.Chunk.{Form, riff, Chunk, Header, too_short, full_header, Run, spell, ends, chunks, and_then, stopped, passes, pad_len}
+use Rattle.container_model.specs.Chunk.{Form, riff, Chunk, too_short, full_header, Run, spell, ends, chunks, and_then, stopped, passes, pad_len}
 use Rattle.container_model.specs.Sizes.{plain, Sizes, sized, riff_front}
 use Rattle.container_model.specs.Written.{slice}
 use Rattle.container_model.specs.Windows.{window}

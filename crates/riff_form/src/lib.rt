@@ -8,12 +8,13 @@ ghost use Rattle.std.specs.Int.{w32, from_le_bytes};
 ghost use Rattle.me_disk.specs.Causes.{Rose};
 ghost use Rattle.me_disk.specs.Steps.{HasCause, ReadsOnly};
 ghost use Rattle.me_disk.specs.Holds.{Holds, Inside};
+ghost use Rattle.me_disk.specs.Windows.{IsWindow};
 ghost use Rattle.container_model.specs.Windows.{window};
 ghost use Rattle.container_model.specs.Chunk.{Form, Header, full_header, chunks, and_then, stopped, passes};
 ghost use Rattle.container_model.specs.Sizes.{Sizes, riff_front};
 ghost use Rattle.riff_form.specs.Walk.{InOrder, place_after, FrontIs, Passed, Cut, Stepped, Stuck};
 
-use me_disk::{Depot, DepotFault, Slot};
+use me_disk::{Depot, DepotFault, HeaderWindow};
 use part_tree::{FourCc, Span};
 
 /// The eight bytes before a chunk's body: its identifier, its place in the file and the size that stands in its header.
@@ -40,11 +41,13 @@ pub struct Truncated {
     pub at: u64,
 }
 
-/// Goes over the chunks that follow each other from a place up to an end, which is the end of their parent.
-#[derive(Clone, Copy, Debug)]
+/// Goes over the chunks that follow each other from a place up to an end, which is the end of their parent. Headers are read
+/// through a window of 4,096 bytes.
+#[derive(Drop)]
 pub struct Walker {
     pub at: u64,
     pub end: u64,
+    pub window: HeaderWindow,
     ghost in_order: { at ≤ end },
     ghost small: { end < 2 ^ 63 },
 }
@@ -56,18 +59,22 @@ impl Walker {
         requires small { end < 2 ^ 63 }
         ensures at { result.at ≡ at }
         ensures end { result.end ≡ end }
+        ensures empty { (result.window.from ≡ 0) × (result.window.len ≡ 0) }
     {
-        Walker { at, end }
+        let window = HeaderWindow::new();
+        Walker { at, end, window }
     }
 
     /// The header of the next chunk. None where fewer than eight bytes are left.
     pub fn head<D: Depot>(&mut self, depot: &mut D) -> Result<Option<Head>, DepotFault>
         requires inside { Inside self.old.end (D.disk depot.old) }
+        requires window { IsWindow (D.disk depot.old) self.old.window }
         ensures none { IfOk result (λ found. IsNone found ↔ (self.old.end < self.old.at + 8)) }
         ensures place { IfOk result (λ found. IfSome found (λ head. head.at ≡ self.old.at)) }
         ensures letters { IfOk result (λ found. IfSome found (λ head. length head.id.0 ≡ 4)) }
         ensures front { IfOk result (λ found. (b : List ℕ) → Holds (D.disk depot.old) b → FrontIs (window b self.old.at self.old.end) found) }
         ensures stays { (self.new.at ≡ self.old.at) × (self.new.end ≡ self.old.end) }
+        ensures window { IsWindow (D.disk depot.new) self.new.window }
         ensures reads { ReadsOnly (D.disk depot.old) (D.disk depot.new) }
         ensures cause { HasCause (D.disk depot.old) (D.disk depot.new) result }
     {
@@ -75,7 +82,7 @@ impl Walker {
             return Ok(None);
         }
         let mut bytes = [0u8; 8];
-        depot.read_at(Slot::Main, self.at, &mut bytes)?;
+        self.window.read_at(depot, self.at, self.end, &mut bytes)?;
         Ok(Some(head_of(self.at, &bytes)))
     }
 
@@ -91,6 +98,7 @@ impl Walker {
         ensures ahead { IfOk result (λ chunk. self.old.at + 8 ≤ chunk.next) }
         ensures moved { IfOk result (λ chunk. (self.new.at ≡ chunk.next) × (self.new.end ≡ self.old.end)) }
         ensures stays { OnErr result ((self.new.at ≡ self.old.at) × (self.new.end ≡ self.old.end)) }
+        ensures window { self.new.window ≡ self.old.window }
 
         // One step of the chunks of each file in which the header stands here.
         ensures chunk { IfOk result (λ chunk. (b : List ℕ) → self.old.end ≤ length b → Passed b self.old.at self.old.end chunk) }
@@ -140,12 +148,14 @@ impl Walker {
     /// Steps over the next chunk, whose size is in its header. None where fewer than eight bytes are left.
     pub fn step<D: Depot>(&mut self, depot: &mut D) -> Result<Option<ChunkAt>, StepFault>
         requires inside { Inside self.old.end (D.disk depot.old) }
+        requires window { IsWindow (D.disk depot.old) self.old.window }
         ensures chunk { IfOk result (λ found. IfSome found (λ chunk. InOrder self.old.at self.old.end chunk)) }
         ensures moved { IfOk result (λ found. self.new.at ≡ place_after self.old.at found) }
         ensures end { self.new.end ≡ self.old.end }
         ensures stays { OnErr result (self.new.at ≡ self.old.at) }
         ensures row { (b : List ℕ) → Holds (D.disk depot.old) b → IfOk result (λ found. Stepped b self.old.at self.old.end found) }
         ensures stuck { (b : List ℕ) → Holds (D.disk depot.old) b → IfErr result (λ fault. Stuck b self.old.at self.old.end fault) }
+        ensures window { IsWindow (D.disk depot.new) self.new.window }
         ensures reads { ReadsOnly (D.disk depot.old) (D.disk depot.new) }
         ensures cause { result ≡ Err StepFault.Depot → Rose (D.disk depot.old).faults (D.disk depot.new).faults }
     {

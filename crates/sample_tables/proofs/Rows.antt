@@ -1,15 +1,15 @@
 -- The rows of tables, counted and one by one.
-use Rattle.std.proofs.Common.{◌≡◌, ℕ, zero, suc, ◌+◌, ◌*◌, ◌<◌, ◌≤◌, Bool, true, false, ltb, List, [], ◌∷◌, length, take, drop, get_or, replicate, refl, sym, ap, ◌∙◌, arith, Option, Some, None}
+use Rattle.std.proofs.Common.{◌≡◌, ℕ, zero, suc, ◌+◌, ◌*◌, ◌<◌, Bool, true, false, ltb, List, [], length, take, drop, get_or, replicate, refl, sym, ap, ◌∙◌, arith, Option, Some, None}
 use Rattle.std.specs.Prelude.{◌||◌, codes, if◌then◌else◌, IfSome, IsTrue}
 use Rattle.std.specs.Int.{w32, w64, from_be_bytes}
 use Rattle.std.specs.Str.{bytes_eq}
 use Rattle.std.proofs.lemmas.List.{drop-drop}
 use Rattle.container_model.specs.Chunk.{Chunk}
 use Rattle.container_model.specs.Rows.{Width, be32, be64, numbers}
-use Rattle.mov_model.specs.Atoms.{atom, is}
-use Rattle.mov_model.specs.Samples.{ChunkRun, runs_from, runs_in, sizes_by, sizes_in}
-use Rattle.mov_model.specs.Tables.{count, need, places_in, size_rows}
-use Rattle.sample_tables.specs.Tables.{place_table, row_count, row_len_of, rows_by, rows_told, size_count, size_rows_by}
+use Rattle.container_model.specs.Atoms.{atom, is}
+use Rattle.sample_tables.specs.Samples.{runs_from, runs_in, sizes_by, sizes_in}
+use Rattle.sample_tables.specs.Tables.{count, places_in, size_rows}
+use Rattle.sample_tables.specs.Counts.{place_table, row_len_of, rows_by, rows_told, size_count, size_rows_by}
 
 -- ---- by the type of the table
 

@@ -3,13 +3,14 @@
 //! big-endian. It reads no file and takes no memory.
 #![tactic(auto)]
 
-ghost use Rattle.std.specs.Prelude.{◌≡◌, ◌↔◌, ◌≤◌, ◌<◌, ◌+◌, ◌*◌, ℕ, List, length, take, drop, sum, Some, IfSome, IsSome, IsTrue, codes, slice_index, ◌||◌};
+ghost use Rattle.std.specs.Prelude.{false, ◌≡◌, ◌↔◌, ◌≤◌, ◌<◌, ◌+◌, ◌*◌, ℕ, List, length, map, take, drop, sum, Some, IfSome, IsSome, IsTrue, codes, slice_index, ◌||◌};
+ghost use Rattle.std.specs.List.{AllByRecursion};
 ghost use Rattle.std.specs.Int.{w32, w64, from_be_bytes};
 ghost use Rattle.container_model.specs.Chunk.{Chunk};
-ghost use Rattle.mov_model.specs.Atoms.{atom, is};
-ghost use Rattle.mov_model.specs.Samples.{runs_in, sizes_in};
-ghost use Rattle.mov_model.specs.Tables.{places_in};
-ghost use Rattle.sample_tables.specs.Tables.{HasRow, place_table, placed, row_len_of, rows_by, rows_told, size_rows_by};
+ghost use Rattle.container_model.specs.Atoms.{atom, is};
+ghost use Rattle.sample_tables.specs.Samples.{runs_in, samples_in, sizes_in};
+ghost use Rattle.sample_tables.specs.Tables.{FitsRows, is_short_table, moved_table, places, places_in};
+ghost use Rattle.sample_tables.specs.Counts.{HasRow, place_table, placed, row_len_of, rows_by, rows_told, size_rows_by};
 
 use part_tree::FourCc;
 
@@ -156,6 +157,16 @@ pub fn rows_are_counted()
     ensures places { (c : Chunk) (n : ℕ) → IsTrue (is c (codes "stco") || is c (codes "co64")) → rows_told c ≡ Some n → length (places_in c) ≡ n }
     ensures runs { (body : List ℕ) (n : ℕ) → rows_told (atom (codes "stsc") body) ≡ Some n → length (runs_in (atom (codes "stsc") body)) ≡ n }
     ensures sizes { (body : List ℕ) (n : ℕ) → rows_told (atom (codes "stsz") body) ≡ Some n → length (sizes_in (atom (codes "stsz") body)) ≡ n }
+{}
+
+/// Tables that are long enough, with their places changed so that each fits its width, hold the changed places.
+pub fn places_are_changed()
+    ensures { (f : ℕ → ℕ) (ts : List Chunk) → AllByRecursion (λ c. is_short_table c ≡ false) ts → AllByRecursion (FitsRows f) ts → places (map (moved_table f) ts) ≡ map f (places ts) }
+{}
+
+/// Each sample that is named has as many bytes as the table of sizes tells.
+pub fn samples_are_whole()
+    ensures { (n : ℕ) (sizes tail : List ℕ) → map (λ (x : List ℕ). length x) (samples_in n sizes tail) ≡ take (length (samples_in n sizes tail)) sizes }
 {}
 
 #[cfg(test)]

@@ -4,7 +4,7 @@ use Rattle.std.specs.List.{flat_map}
 use Rattle.part_tree.specs.declared.plan.Patch.{Patch}
 use Rattle.carrier_model.specs.Room.{patch}
 use Rattle.carrier_model.proofs.Patches.{all_bytes-append, patch_bytes, order_patch, touches_behind, touches_patch}
-use Rattle.part_tree.specs.Patches.{InOrder, Touches, Rules, all_bytes}
+use Rattle.part_tree.specs.Patches.{InOrder, Touches, FewRules, all_bytes}
 use Rattle.unit_plan.specs.declared.cut.CutAt.{CutAt}
 use Rattle.unit_plan.specs.Cuts.{SpansAscend, FitsIn, IsExact, EndsFile, patch_of}
 use Rattle.unit_plan.specs.Sized.{gained, lost, IsTooMuch, spliced_len}
@@ -46,14 +46,16 @@ covered from len new (k ∷ ks) h f e q low high = go f.0 (λ same. covered (k.s
         touches_patch q k.span.at k.bytes (flat_map patch_of ks) (omega (arith, low, last.0)) (omega (arith, e, high, nothing, last.0))
 
 pub keeps_rules : (len new : ℕ) (ks : List CutAt) (ps : List Patch) → SpansAscend 0 ks len → FitsIn len ks → new ≡ spliced_len len ks → len < 2 ^ 63 → new < 2 ^ 63
-    → ps ≡ flat_map patch_of ks → length ps ≤ 65536 → all_bytes ps ≤ 2 ^ 24 → Rules len new ps
+    → ps ≡ flat_map patch_of ks → length ps ≤ 65536 → all_bytes ps ≤ 2 ^ 24 → FewRules len new ps
 keeps_rules len new ks ps h f e old_fits new_fits is few small = record {
-  old_fits = old_fits;
-  new_fits = new_fits;
   few = few;
-  order = subst (InOrder new 0) (sym is) (ordered 0 0 len new ks (omega arith) h f e);
-  small = small;
-  whole = λ q low high. subst (Touches q) (sym is) (covered 0 len new ks h f e q low high);
+  rules = record {
+    old_fits = old_fits;
+    new_fits = new_fits;
+    order = subst (InOrder new 0) (sym is) (ordered 0 0 len new ks (omega arith) h f e);
+    small = small;
+    whole = λ q low high. subst (Touches q) (sym is) (covered 0 len new ks h f e q low high);
+  };
 }
 
 -- ---- one patch more

@@ -8,9 +8,9 @@ use Rattle.unit_plan.specs.Sized.{IsTooMuch}
 -- a new file of so many bytes
 abbrev pub IsRewrite : ℕ → Plan → Type 0
 IsRewrite new (InPlace old n ps) = ⊥
-IsRewrite new (Rewrite n segments) = n ≡ new
+IsRewrite new (Rewrite n moves segments) = n ≡ new
 
 -- These patches where the spans fit and the patches aren't too much, and else a new file, by the two lengths.
 abbrev pub IsPlanOf : Bool → ℕ → ℕ → List Patch → Plan → Type 0
 IsPlanOf fit old new ps (InPlace m n qs) = (fit ≡ true) × (m ≡ old) × (n ≡ new) × (qs ≡ ps)
-IsPlanOf fit old new ps (Rewrite n segments) = ((fit ≡ false) ⊎ IsTooMuch ps) × (n ≡ new)
+IsPlanOf fit old new ps (Rewrite n moves segments) = ((fit ≡ false) ⊎ IsTooMuch ps) × (n ≡ new)

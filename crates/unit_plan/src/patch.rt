@@ -1,7 +1,7 @@
 // The patches that make a new file in place.
 ghost use Rattle.std.specs.Prelude.{◌≡◌, ◌≤◌, ◌<◌, ◌^◌, length, IfOk, IfSome, IfNone};
 ghost use Rattle.std.specs.List.{flat_map};
-ghost use Rattle.part_tree.specs.Patches.{Rules, all_bytes};
+ghost use Rattle.part_tree.specs.Patches.{FewRules, all_bytes};
 ghost use Rattle.unit_plan.specs.Cuts.{FitsIn, SpansAscend, patch_of};
 ghost use Rattle.unit_plan.specs.Sized.{IsTooMuch, spliced_len};
 
@@ -60,7 +60,7 @@ pub fn in_place(
     requires old_small { len < 2 ^ 63 }
     requires new_small { new_len < 2 ^ 63 }
     ensures patches { IfOk result (λ found. IfSome found (λ ps. ps ≡ flat_map patch_of cuts.now)) }
-    ensures rules { IfOk result (λ found. IfSome found (λ ps. Rules len new_len ps)) }
+    ensures rules { IfOk result (λ found. IfSome found (λ ps. FewRules len new_len ps)) }
     ensures none { IfOk result (λ found. IfNone found (IsTooMuch (flat_map patch_of cuts.now))) }
 {
     match patches_of(alloc, cuts)? {

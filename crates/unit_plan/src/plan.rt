@@ -10,7 +10,7 @@ ghost use Rattle.unit_plan.specs.Planned.{IsPlanOf, IsRewrite};
 use crate::cut::CutAt;
 use crate::patch::in_place;
 use crate::segment::segments;
-use part_tree::{NoMemory, Plan};
+use part_tree::{Moves, NoMemory, Plan};
 use std::alloc::Global;
 
 // The new file in segments.
@@ -25,7 +25,11 @@ fn rewrite(alloc: Global, cuts: &[CutAt], len: u64, new_len: u64) -> Result<Plan
     ensures rewrites { IfOk result (λ p. IsRewrite new_len p) }
 {
     let segments = segments(alloc, cuts, len)?;
-    Ok(Plan::Rewrite { new_len, segments })
+    Ok(Plan::Rewrite {
+        new_len,
+        moves: Moves::none(alloc),
+        segments,
+    })
 }
 
 /// The plan that replaces spans of a file of `len` bytes, which has `new_len` bytes then: in place where the spans `fit` there

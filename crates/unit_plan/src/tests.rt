@@ -180,7 +180,11 @@ fn plans_a_new_file(rt: HostRuntime) -> Result<(), Fail> {
     let cuts = [size_cut(alloc, true, 5_000_001_120)?, more];
     match plan_of(alloc, &cuts, false, 48, 50)? {
         Plan::InPlace { .. } => Err(Fail::from(NoMemory)),
-        Plan::Rewrite { new_len, segments } => {
+        Plan::Rewrite {
+            new_len,
+            segments,
+            ..
+        } => {
             assert_eq!(rt; new_len, 50);
             let mut found = Vec::new(alloc);
             for segment in segments.as_slice() {
@@ -191,6 +195,7 @@ fn plans_a_new_file(rt: HostRuntime) -> Result<(), Fail> {
                         0,
                         bytes.as_slice().first().copied(),
                     ))?,
+                    Segment::Table { .. } => return Err(Fail::from(NoMemory)),
                 }
             }
             assert_eq!(rt;

@@ -45,7 +45,16 @@ record Whole (b : List ℕ) (t : Bool) (run : Run) : Type 0 where
   sounds : all_sounds (wave_of b) ≡ along sound_at (start t run) (others t run.chunks)
 
 whole_is : (b : List ℕ) (t : Bool) (run : Run) → is_big (take 4 b) ≡ t → form_run b ≡ run → Whole b t run
-whole_is b t run e i = subst (λ (r : Run). Whole b t r) i (subst (λ (u : Bool). Whole b u (form_run b)) e (record { tests = refl; parts = refl; grown = λ n. refl; formats = refl; sounds = refl }))
+whole_is b t run e i = subst (λ (r : Run). Whole b t r) i (subst (λ (u : Bool). Whole b u (form_run b)) e (record {
+  tests = refl;
+  parts = ap (λ (n : ℕ). along sizes_at 12 (firsts (is_big (take 4 b)) (form_run b).chunks) ++ along part_at n (others (is_big (take 4 b)) (form_run b).chunks)) at;
+  grown = λ n. refl;
+  formats = refl;
+  sounds = ap (λ (n : ℕ). along sound_at n (others (is_big (take 4 b)) (form_run b).chunks)) at;
+}))
+  where
+    at : Rattle.wave_model.specs.New.children_at (wave_of b) ≡ start (is_big (take 4 b)) (form_run b)
+    at = omega arith
 
 fresh_seen : (r : Reading) (z : Sizing) (n : ℕ) → IsFresh r z → (record { parts = n; formats = length (listed r.align); sounds = length (listed r.sound); bexts = (seen_of r).bexts }) ≡ nothing_seen n
 fresh_seen r z n fresh =

@@ -8,7 +8,8 @@ use Rattle.part_tree.specs.declared.why.Why.{Why}
 use Rattle.container_model.specs.Chunk.{Chunk}
 use Rattle.wave_model.specs.Fields.{is_bext}
 use Rattle.wave_model.specs.Edited.{is_carrier}
-use Rattle.wave_model.specs.Why.{Seen, first, or_else, chunk_tests}
+use Rattle.wave_model.specs.Why.{Seen, chunk_tests}
+use Rattle.container_model.specs.Tests.{first, or_else}
 use Rattle.wave_file.specs.Tests.{early_tests, essence_tests, late_tests}
 use Rattle.wave_file.specs.Reads.{one_if}
 

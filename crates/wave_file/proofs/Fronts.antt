@@ -25,7 +25,8 @@ use Rattle.rf64_ds64.specs.Ds64.{IsDs64, is_short, needed}
 use Rattle.container_model.specs.Ds64.{le32, le64, rows, table_of}
 use Rattle.wave_model.specs.Wave.{is_big, form_size, form_body, form_run, sizes_of, kind_of}
 use Rattle.wave_model.specs.Edited.{is_kind}
-use Rattle.wave_model.specs.Why.{first, or_else, kind_tests, ds64_tests, ds64_why, form_tests, chunks_why, why}
+use Rattle.wave_model.specs.Why.{kind_tests, ds64_tests, ds64_why, form_tests, chunks_why, why}
+use Rattle.container_model.specs.Tests.{first, or_else}
 use Rattle.wave_model.proofs.Ds64.{table_same}
 use Rattle.wave_file.specs.declared.form.Front.{Front}
 use Rattle.wave_file.specs.declared.form.AllRead.{AllRead}
@@ -65,6 +66,14 @@ short_kind b h = one_test (not (is_wave b)) UnknownKind (ap not (and_false (is_k
     go : (t : Bool) → bytes_eq (take 4 (drop 8 b)) (codes "WAVE") ≡ t → t ≡ false
     go true e = absurd (omega (arith, h, ap length (bytes_same (take 4 (drop 8 b)) (codes "WAVE") e), length-take 4 (drop 8 b), length-drop 8 b))
     go false e = refl
+
+-- the kind by both identifiers
+pub kind_told : (b : List ℕ) (big bw : Bool) → big ≡ is_big (take 4 b) → bw ≡ bytes_eq (codes "BW64") (take 4 b) → kind_from big bw ≡ kind_of b
+kind_told b big bw e i = ap (λ (t : Bool). kind_from t bw) e ∙ ap (kind_from (is_big (take 4 b))) i ∙ go (is_big (take 4 b))
+  where
+    go : (t : Bool) → kind_from t (bytes_eq (codes "BW64") (take 4 b)) ≡ (if t then (if bytes_eq (codes "BW64") (take 4 b) then Rattle.part_tree.specs.declared.names.Kind.TheVariants.Bw64 else Rattle.part_tree.specs.declared.names.Kind.TheVariants.Rf64) else Rattle.part_tree.specs.declared.names.Kind.TheVariants.Wave)
+    go true = refl
+    go false = refl
 
 -- ---- ds64
 
@@ -261,19 +270,12 @@ chunks_fail b f ds end (Fault.Why w) front form h = why_chunks b f ds end front 
 chunks_fail b f ds end Fault.Depot front form h = tt
 chunks_fail b f ds end Fault.Memory front form h = tt
 
-kind_is : (b : List ℕ) (f : Front) → IsFront b f → kind_from f.big ≡ kind_of b
-kind_is b f front = ap kind_from front.big ∙ go (is_big (take 4 b))
-  where
-    go : (t : Bool) → kind_from t ≡ (if t then Rattle.part_tree.specs.declared.names.Kind.TheVariants.Rf64 else Rattle.part_tree.specs.declared.names.Kind.TheVariants.Wave)
-    go true = refl
-    go false = refl
-
-pub map_is : (b : List ℕ) (f : Front) (m : WaveMap) (r : AllRead) (ds : Option Ds64) → IsFront b f → IsForm b ds m.form_end → IsRead b r → m.len ≡ length b → m.kind ≡ kind_from f.big → m.ds64 ≡ ds → m.parts.items ≡ r.parts.items
+pub map_is : (b : List ℕ) (f : Front) (m : WaveMap) (r : AllRead) (ds : Option Ds64) → IsFront b f → IsForm b ds m.form_end → IsRead b r → m.len ≡ length b → m.kind ≡ f.kind → m.ds64 ≡ ds → m.parts.items ≡ r.parts.items
     → m.fields ≡ r.fields → m.sound ≡ r.sound → m.align ≡ r.align → IsMapOf b m
 map_is b f m r ds front form read len kind sizes parts fs sound align = record {
   supported = why_chunks b f ds m.form_end front form ∙ read.tests;
   len = len;
-  kind = kind ∙ kind_is b f front;
+  kind = kind ∙ front.kind;
   form_end = form.size;
   sizes = subst (HasSizes b) (sym sizes) form.has;
   parts = parts ∙ read.parts;

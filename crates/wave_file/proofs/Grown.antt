@@ -11,7 +11,7 @@ use Rattle.carrier_model.specs.Info.{own_size, one_of, info_items, list_run}
 use Rattle.part_tree.specs.declared.names.FourCc.{FourCc}
 use Rattle.part_tree.specs.declared.field.BextField.{BextField}
 use Rattle.part_tree.specs.declared.field.FieldName.{FieldName}
-use Rattle.part_tree.specs.declared.field.FieldName.TheVariants.{Bext, Info, Whole, User}
+use Rattle.part_tree.specs.declared.field.FieldName.TheVariants.{Bext, Info, Whole, User, Key, Stream}
 use Rattle.part_tree.specs.declared.field.Value.{Value}
 use Rattle.part_tree.specs.declared.fields.Entry.{Entry}
 use Rattle.part_tree.specs.Fields.{values, Adds}
@@ -20,7 +20,7 @@ use Rattle.part_tree.proofs.Places.{same_is_equal, bytes_same, row_small}
 use Rattle.field_model.specs.Bext.{range_of, range_at, range_len}
 use Rattle.field_model.specs.Body.{FillsRange}
 use Rattle.field_model.specs.Fields.{FieldMap, plain}
-use Rattle.field_model.proofs.Ranges.{fixed_len, before_rest}
+use Rattle.field_model.proofs.Fills.{range_fills}
 use Rattle.info_list.specs.declared.InfoItem.{InfoItem}
 use Rattle.info_list.specs.Info.{item_of}
 use Rattle.wave_model.specs.Fields.{is_bext, is_info, is_whole, fields_of}
@@ -75,7 +75,7 @@ range_added old mid new k field v body row is so_far a = grown_on old mid new (r
         ∙ next_range k (bext_row f) (λ r. plain (range_of r body))
     next (Info id) = refl
     next (Whole id) = refl
-    next (User id) = refl
+    next other = refl
 
 pub none_below : (old : List Entry) (body : List ℕ) → Grows old old (ranges_below 0 body)
 none_below old body = not_grown old (ranges_below 0 body) none
@@ -84,22 +84,10 @@ none_below old body = not_grown old (ranges_below 0 body) none
     none (Bext f) = ap (λ (t : Bool). if t then plain (range_of (bext_row f) body) ∷ [] else []) (le-ltb (bext_row f) 0 (omega arith))
     none (Info id) = refl
     none (Whole id) = refl
-    none (User id) = refl
+    none other = refl
 
 all_below : (field : BextField) (body : List ℕ) → ranges_below 15 body (Bext field) ≡ plain (range_of (bext_row field) body) ∷ []
 all_below field body = ap (λ (t : Bool). if t then plain (range_of (bext_row field) body) ∷ [] else []) (lt-ltb (bext_row field) 15 (row_small field))
-
-range_fills : (field : BextField) (body : List ℕ) → 602 ≤ length body → FillsRange field (range_of (bext_row field) body)
-range_fills field body long = go (cases_lt (bext_row field) 14)
-  where
-    go : (bext_row field < 14) ⊎ (14 ≤ bext_row field) → FillsRange field (range_of (bext_row field) body)
-    go (inl lt) =
-        let k = bext_row field in
-        let n = length body in
-        let size = length-take (range_len k n) (drop (range_at k n) body) in
-        let from = length-drop (range_at k n) body in
-        inr (omega (arith, size, from, before_rest k n lt, fixed_len k 0 n lt))
-    go (inr le) = inl (omega (arith, row_small field))
 
 pub has_bext : (old new : List Entry) (body : List ℕ) → 602 ≤ length body → Grows old new (ranges_below 15 body) → HasNoBext old → HasBext new
 has_bext old new body long grown none field = (
@@ -115,7 +103,7 @@ items_more i is (Bext f) = refl
 items_more i is (Info id) =
     map-append plain (item_value id.0 i) (item_values id.0 is) ∙ ap (λ (x : List (List ℕ)). map plain x ++ map plain (item_values id.0 is)) (sym (append-nil (item_value id.0 i)))
 items_more i is (Whole id) = refl
-items_more i is (User id) = refl
+items_more i is other = refl
 
 -- the values that are there and those of the items that are left are the whole
 abbrev pub ItemsLeft : List Entry → List Entry → List InfoItem → List InfoItem → Type 0
@@ -133,7 +121,7 @@ no_items : (n : FieldName) → items_held [] n ≡ []
 no_items (Bext f) = refl
 no_items (Info id) = refl
 no_items (Whole id) = refl
-no_items (User id) = refl
+no_items other = refl
 
 pub items_end : (old now : List Entry) (is whole : List InfoItem) (k : ℕ) → length is ≤ k → ItemsLeft now old (drop k is) whole → Grows old now (items_held whole)
 items_end old now is whole k le left n =
@@ -154,7 +142,7 @@ item_added old new i v there is a = grown_as old new (one (Info i.id) v) (items_
         go false true e = refl
         go t false e = absurd cc
     same (Whole id) = refl
-    same (User id) = refl
+    same other = refl
 
 pub item_passed : (old : List Entry) (i : InfoItem) → one_of info_ids i.id.0 ≡ false → Grows old old (items_held (i ∷ []))
 item_passed old i other = not_grown old (items_held (i ∷ [])) none
@@ -168,7 +156,7 @@ item_passed old i other = not_grown old (items_held (i ∷ [])) none
         go false false e = refl
         go t true e = absurd cc
     none (Whole id) = refl
-    none (User id) = refl
+    none other = refl
 
 held_values : (id : List ℕ) (cs : List Chunk) → item_values id (map item_of cs) ≡ items.values info_items id cs
 held_values id [] = refl
@@ -198,7 +186,7 @@ holds_none : (c : Chunk) (n : FieldName) → Holding c false false false → fie
 holds_none c (Bext f) h = rw h.ranges_is refl
 holds_none c (Info id) h = rw h.list_is refl
 holds_none c (Whole id) h = rw (no_whole c id.0 h.whole_is) refl
-holds_none c (User id) h = refl
+holds_none c other h = refl
 
 pub none_grown : (c : Chunk) (old : List Entry) → Holding c false false false → Grows old old (fields_of (c ∷ []))
 none_grown c old h = not_grown old (fields_of (c ∷ [])) (λ n. holds_none c n h)
@@ -210,7 +198,7 @@ bext_grown c old new h grown = grown_as old new (ranges_below 15 c.body) (fields
     same (Bext f) = all_below f c.body ∙ rw h.ranges_is refl
     same (Info id) = rw h.list_is refl
     same (Whole id) = rw (no_whole c id.0 h.whole_is) refl
-    same (User id) = refl
+    same other = refl
 
 pub list_grown : (c : Chunk) (old new : List Entry) (is : List InfoItem) → Holding c true false false → is ≡ map item_of (list_run c).chunks → Grows old new (items_held is) → Grows old new (fields_of (c ∷ []))
 list_grown c old new is h e grown = grown_as old new (items_held is) (fields_of (c ∷ [])) grown same
@@ -222,7 +210,7 @@ list_grown c old new is h e grown = grown_as old new (items_held is) (fields_of 
         ∙ ap (map plain) (held_values id.0 (list_run c).chunks ∙ sym (append-nil (items.values info_items id.0 (list_run c).chunks)))
         ∙ ap (λ (t : Bool). map plain ((if t then items.values info_items id.0 (list_run c).chunks else []) ++ [])) (sym h.list_is)
     same (Whole id) = rw (no_whole c id.0 h.whole_is) refl
-    same (User id) = refl
+    same other = refl
 
 pub whole_grown : (c : Chunk) (id : FourCc) (old new : List Entry) → Holding c false true false → c.id ≡ id.0 → Adds old new (Whole id) (plain c.body) → Grows old new (fields_of (c ∷ []))
 whole_grown c id old new h same_id a = grown_as old new (one (Whole id) (plain c.body)) (fields_of (c ∷ [])) (added old new (Whole id) (plain c.body) a) same
@@ -240,4 +228,4 @@ whole_grown c id old new h same_id a = grown_as old new (one (Whole id) (plain c
             no : (x : Bool) → [] ≡ map plain ((if x && false then c.body ∷ [] else []) ++ [])
             no true = refl
             no false = refl
-    same (User i) = refl
+    same other = refl

@@ -6,7 +6,7 @@ use Rattle.std.proofs.lemmas.List.{append-nil, map-append}
 use Rattle.part_tree.specs.declared.part.Part.{Part}
 use Rattle.part_tree.specs.declared.names.Span.{Span}
 use Rattle.part_tree.specs.declared.field.FieldName.{FieldName}
-use Rattle.part_tree.specs.declared.field.FieldName.TheVariants.{Bext, Info, Whole, User}
+use Rattle.part_tree.specs.declared.field.FieldName.TheVariants.{Bext, Info, Whole, User, Key, Stream}
 use Rattle.part_tree.specs.declared.field.Value.{Value}
 use Rattle.part_tree.specs.declared.fields.Entry.{Entry}
 use Rattle.part_tree.specs.declared.why.Why.{Why}
@@ -24,7 +24,8 @@ use Rattle.field_model.specs.Bext.{range_of}
 use Rattle.field_model.specs.Fields.{plain}
 use Rattle.wave_model.specs.Fields.{is_bext, is_whole, body_in, bodies, fields_of}
 use Rattle.wave_model.specs.Edited.{block_size, formats}
-use Rattle.wave_model.specs.Why.{Seen, or_else, is_fmt, see, children_why, last_why, chunks_why}
+use Rattle.wave_model.specs.Why.{Seen, is_fmt, see, children_why, last_why, chunks_why}
+use Rattle.container_model.specs.Tests.{or_else}
 use Rattle.wave_file.specs.declared.chunk.Reading.{Reading}
 use Rattle.wave_file.specs.declared.form.AllRead.{AllRead}
 use Rattle.wave_file.specs.Map.{part_at, sound_at}
@@ -48,13 +49,13 @@ fields_more c cs (Info id) =
 fields_more c cs (Whole id) =
     ap (λ (x : List (List ℕ)). map plain (x ++ bodies (is_whole id.0) cs)) (sym (append-nil (body_in (is_whole id.0) c)))
     ∙ map-append plain (body_in (is_whole id.0) c ++ []) (bodies (is_whole id.0) cs)
-fields_more c cs (User id) = refl
+fields_more c cs other = refl
 
 no_fields : (n : FieldName) → fields_of [] n ≡ []
 no_fields (Bext f) = refl
 no_fields (Info id) = refl
 no_fields (Whole id) = refl
-no_fields (User id) = refl
+no_fields other = refl
 
 -- ---- one step
 

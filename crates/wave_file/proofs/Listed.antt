@@ -21,7 +21,7 @@ use Rattle.riff_form.specs.Walk.{chunk_in}
 use Rattle.wave_model.specs.Wave.{form_kind}
 use Rattle.wave_model.specs.Fields.{is_info}
 use Rattle.wave_model.specs.Edited.{parts_of}
-use Rattle.wave_model.specs.Why.{first, ended}
+use Rattle.container_model.specs.Tests.{first, ended}
 use Rattle.wave_file.specs.Tests.{late_tests}
 use Rattle.wave_file.specs.Reads.{AddsFields, Grows, ReadsFields, items_held, ranges_below}
 use Rattle.wave_file.proofs.Grown.{Holding, none_grown, bext_grown, list_grown, whole_grown}

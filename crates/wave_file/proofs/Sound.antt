@@ -13,7 +13,8 @@ use Rattle.container_model.specs.Items.{listed}
 use Rattle.container_model.specs.Written.{slice}
 use Rattle.wave_model.specs.Fields.{body_in}
 use Rattle.wave_model.specs.Edited.{block_size}
-use Rattle.wave_model.specs.Why.{first, is_fmt, is_data}
+use Rattle.wave_model.specs.Why.{is_fmt, is_data}
+use Rattle.container_model.specs.Tests.{first}
 use Rattle.wave_file.specs.Map.{sound_at}
 use Rattle.wave_file.specs.Tests.{essence_tests}
 use Rattle.wave_file.specs.Reads.{seen_of, AddsSound, Ends}

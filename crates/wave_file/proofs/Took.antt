@@ -21,7 +21,8 @@ use Rattle.container_model.specs.Chunk.{Chunk, spell}
 use Rattle.container_model.specs.Items.{listed}
 use Rattle.wave_model.specs.Fields.{is_bext, body_in}
 use Rattle.wave_model.specs.Edited.{block_size, parts_of}
-use Rattle.wave_model.specs.Why.{Seen, first, is_fmt, is_data, see, chunk_tests}
+use Rattle.wave_model.specs.Why.{Seen, is_fmt, is_data, see, chunk_tests}
+use Rattle.container_model.specs.Tests.{first}
 use Rattle.wave_file.specs.Lawful.{HasRanges}
 use Rattle.wave_file.specs.Map.{Ascend, part_as, sound_at}
 use Rattle.wave_file.specs.Tests.{early_tests, late_tests}

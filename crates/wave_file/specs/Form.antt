@@ -3,16 +3,17 @@ use Rattle.std.specs.Prelude.{◌≡◌, ◌≤◌, ℕ, ◌+◌, ◌==◌, ◌|
 use Rattle.std.specs.declared.result.Result.TheVariants.{Ok, Err}
 use Rattle.part_tree.specs.declared.field.FieldName.{FieldName}
 use Rattle.part_tree.specs.declared.names.Kind.{Kind}
-use Rattle.part_tree.specs.declared.names.Kind.TheVariants.{Rf64, Wave as WaveKind}
+use Rattle.part_tree.specs.declared.names.Kind.TheVariants.{Rf64, Bw64, Wave as WaveKind}
 use Rattle.part_tree.specs.Fields.{values}
 use Rattle.part_tree.specs.declared.why.ReadFault.{ReadFault}
 use Rattle.part_tree.specs.declared.why.ReadFault.TheVariants.{Why, Depot, Memory}
 use Rattle.rf64_ds64.specs.declared.Ds64.{Ds64}
 use Rattle.container_model.specs.Ds64.{le32}
-use Rattle.wave_model.specs.Wave.{is_big, form_size, sizes_of, wave_of}
+use Rattle.wave_model.specs.Wave.{is_big, form_size, kind_of, sizes_of, wave_of}
 use Rattle.wave_model.specs.Fields.{fields}
 use Rattle.wave_model.specs.Edited.{block_size, formats}
-use Rattle.wave_model.specs.Why.{first, kind_tests, ds64_tests, ds64_why, chunks_why}
+use Rattle.wave_model.specs.Why.{kind_tests, ds64_tests, ds64_why, chunks_why}
+use Rattle.container_model.specs.Tests.{first}
 use Rattle.field_model.specs.Lawful.{IsLawful}
 use Rattle.wave_file.specs.Map.{Ascend, HasSizes, all_parts, all_sounds}
 use Rattle.wave_file.specs.declared.form.AllRead.{AllRead}
@@ -23,6 +24,7 @@ use Rattle.wave_file.specs.declared.form.Front.{Front}
 pub record IsFront (b : List ℕ) (f : Front) : Type 0 where
   pub tests : first (kind_tests b) ≡ None
   pub big : f.big ≡ is_big (take 4 b)
+  pub kind : f.kind ≡ kind_of b
   pub field : f.field ≡ le32 (drop 4 b)
   pub long : 12 ≤ length b
 
@@ -63,9 +65,10 @@ abbrev pub ReadsEnd : ℕ → Option Ds64 → ℕ → Option ℕ → Type 0
 ReadsEnd field ds len (Some end) = (ends_badly (size_by field ds) len ≡ false) × (end ≡ 8 + size_by field ds) × (12 ≤ end) × (end ≤ len)
 ReadsEnd field ds len None = ends_badly (size_by field ds) len ≡ true
 
-abbrev pub kind_from : Bool → Kind
-kind_from true = Rf64
-kind_from false = WaveKind
+-- the kind of a form, by whether its sizes stand in `ds64`, and whether it is BW64
+abbrev pub kind_from : Bool → Bool → Kind
+kind_from true bw64 = if bw64 then Bw64 else Rf64
+kind_from false bw64 = WaveKind
 
 -- ---- all chunks
 

@@ -1,6 +1,5 @@
 -- What a map says of a WAVE file: its parts with their places and roles, its fields, its sizes, and where its sound stands.
 use Rattle.std.specs.Prelude.{◌≡◌, ◌≤◌, ◌<◌, ℕ, ◌+◌, ◌^◌, ◌==◌, List, [], ◌∷◌, ◌++◌, length, map, take, drop, Bool, true, false, ◌&&◌, Option, Some, None, Result, if◌then◌else◌}
-use Rattle.std.specs.declared.result.Result.TheVariants.{Ok, Err}
 use Rattle.container_model.specs.Chunk.{Chunk, spell}
 use Rattle.container_model.specs.Written.{slice}
 use Rattle.container_model.specs.Walk.{along}
@@ -15,15 +14,16 @@ use Rattle.part_tree.specs.declared.part.Role.TheVariants.{Opaque, Padding, Bext
 use Rattle.part_tree.specs.declared.part.Role.TheVariants as role
 use Rattle.part_tree.specs.declared.field.FieldName.{FieldName}
 use Rattle.part_tree.specs.declared.why.ReadFault.{ReadFault}
-use Rattle.part_tree.specs.declared.why.ReadFault.TheVariants.{Why, Depot, Memory}
 use Rattle.container_model.specs.Ds64.{le32}
 use Rattle.wave_model.specs.Wave.{is_big, Wave, wave_of, form_size, kind_of}
 use Rattle.wave_model.specs.Fields.{is_bext, is_info, fields}
 use Rattle.wave_model.specs.Edited.{block_size, formats}
 use Rattle.wave_model.specs.New.{children_at}
+use Rattle.wave_model.specs.Kind.{narrow_kind}
 use Rattle.wave_model.specs.Why.{is_data, why}
 use Rattle.rf64_ds64.specs.declared.Ds64.{Ds64}
 use Rattle.rf64_ds64.specs.Ds64.{IsDs64}
+use Rattle.field_model.specs.KindReads.{ReadsKind}
 use Rattle.field_model.specs.Lawful.{IsLawful}
 use Rattle.wave_file.specs.declared.map.WaveMap.{WaveMap}
 
@@ -97,10 +97,7 @@ pub record IsMapOf (b : List ℕ) (m : WaveMap) : Type 0 where
 
 -- the map of the file, or the first refusal
 abbrev pub ReadsWave : List ℕ → Result WaveMap ReadFault → Type 0
-ReadsWave b (Ok m) = IsMapOf b m
-ReadsWave b (Err (Why w)) = why b ≡ Some w
-ReadsWave b (Err Depot) = Unit {0}
-ReadsWave b (Err Memory) = Unit {0}
+ReadsWave b r = ReadsKind narrow_kind IsMapOf b r
 
 -- ---- a map that is sound, whatever the file
 

@@ -23,7 +23,8 @@ use Rattle.info_list.specs.declared.InfoItem.{InfoItem}
 use Rattle.wave_model.specs.Wave.{is_big, wave_of, form_size, form_run, sizes_of}
 use Rattle.wave_model.specs.Fields.{body_in, fields, fields_of}
 use Rattle.wave_model.specs.Edited.{block_size, formats, parts_of}
-use Rattle.wave_model.specs.Why.{Seen, is_fmt, first, kind_tests, ds64_why, form_tests, chunk_tests, see, children_why, last_why, chunks_why}
+use Rattle.wave_model.specs.Why.{Seen, is_fmt, kind_tests, ds64_why, form_tests, chunk_tests, see, children_why, last_why, chunks_why}
+use Rattle.container_model.specs.Tests.{first}
 use Rattle.rf64_ds64.specs.declared.Ds64.{Ds64}
 use Rattle.wave_file.specs.Lawful.{HasNoBext, HasBext, HasRanges}
 use Rattle.wave_file.specs.Map.{part_at, sound_at, all_parts, all_sounds, Ascend, HasSizes}

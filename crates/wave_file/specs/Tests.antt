@@ -8,7 +8,8 @@ use Rattle.container_model.specs.Chunk.{Chunk, spell_all}
 use Rattle.carrier_model.specs.Info.{list_run}
 use Rattle.wave_model.specs.Fields.{is_info}
 use Rattle.wave_model.specs.Edited.{block_size, parts_of}
-use Rattle.wave_model.specs.Why.{Seen, is_fmt, is_data, ended}
+use Rattle.wave_model.specs.Why.{Seen, is_fmt, is_data}
+use Rattle.container_model.specs.Tests.{ended}
 
 abbrev pub early_tests : Seen → List ℕ → ℕ → Bool → Bool → List (Bool × Why)
 early_tests s id len carrier bext =

@@ -11,7 +11,7 @@ ghost use Rattle.part_tree.specs.Names.{whole_ids};
 ghost use Rattle.riff_form.specs.Walk.{InOrder, chunk_in};
 ghost use Rattle.wave_model.specs.Wave.{form_kind};
 ghost use Rattle.wave_model.specs.Edited.{block_size};
-ghost use Rattle.wave_model.specs.Why.{first};
+ghost use Rattle.container_model.specs.Tests.{first};
 ghost use Rattle.wave_file.specs.Map.{at_front, role_of};
 ghost use Rattle.wave_file.specs.Tests.{early_tests};
 ghost use Rattle.wave_file.specs.Reads.{Ends, IsPartial, ReadsSound, Takes, carries, is_ranges, role_from, seen_of};

@@ -3,6 +3,7 @@ ghost use Rattle.std.specs.Prelude.{◌≡◌, ◌≤◌, ◌<◌, ◌^◌, [], 
 ghost use Rattle.me_disk.specs.Causes.{Rose};
 ghost use Rattle.me_disk.specs.Steps.{ReadsOnly};
 ghost use Rattle.me_disk.specs.Holds.{Holds, Inside};
+ghost use Rattle.me_disk.specs.Windows.{IsWindow};
 ghost use Rattle.wave_file.specs.Map.{IsSound, ReadsWave};
 ghost use Rattle.wave_file.specs.Form.{IsFront, IsSoundPart, ReadsChunks, ReadsEnd, ReadsForm, ReadsFront, ReadsSizes, kind_from, size_by};
 ghost use Rattle.wave_file.specs.Reads.{Begins, IsForm, IsFresh, IsPartial};
@@ -19,9 +20,10 @@ use std::alloc::Global;
 
 const MOST_BYTES: u64 = 16_777_216;
 
-/// The first bytes of a form of type WAVE: whether its sizes stand in `ds64`, and its own size.
+/// The first bytes of a form of type WAVE: its kind, whether its sizes stand in `ds64`, and its own size.
 #[derive(Clone, Copy, Debug, PartialEq, Eq)]
 pub struct Front {
+    pub kind: Kind,
     pub big: bool,
     pub field: u32,
 }
@@ -53,10 +55,12 @@ fn read_front<D: Depot>(depot: &mut D, len: u64) -> Result<Front, ReadFault>
     }
     let id = FourCc([bytes[0], bytes[1], bytes[2], bytes[3]]);
     let word = FourCc([bytes[8], bytes[9], bytes[10], bytes[11]]);
-    let big = id.is(b"RF64");
+    let bw64 = id.is(b"BW64");
+    let big = id.is(b"RF64") | bw64;
     if (id.is(b"RIFF") | big) & word.is(b"WAVE") {
         let field = u32::from_le_bytes([bytes[4], bytes[5], bytes[6], bytes[7]]);
-        return Ok(Front { big, field });
+        let kind = kind_by(big, bw64);
+        return Ok(Front { kind, big, field });
     }
     Err(ReadFault::Why(Why::UnknownKind))
 }
@@ -164,12 +168,14 @@ fn begin<D: Depot>(
     depot: &mut D,
 ) -> Result<(), ReadFault>
     requires inside { Inside walker.old.end (D.disk depot.old) }
+    requires window { IsWindow (D.disk depot.old) walker.old.window }
     requires starts { walker.old.at ≡ 12 }
     requires fresh { IsFresh reading.old sizing.old }
     ensures begins { (b : List ℕ) → Holds (D.disk depot.old) b → IsForm b sizing.old.ds64 walker.old.end → Begins b reading.new walker.new.at walker.new.end sizing.new result }
     ensures partial { OnOk result (IsPartial reading.new walker.new.at) }
     ensures few { OnOk result (length sizing.new.wides.items ≤ reading.new.count) }
     ensures end { walker.new.end ≡ walker.old.end }
+    ensures window { IsWindow (D.disk depot.new) walker.new.window }
     ensures same { sizing.new.ds64 ≡ sizing.old.ds64 }
     ensures reads { ReadsOnly (D.disk depot.old) (D.disk depot.new) }
     ensures cause { result ≡ Err ReadFault.Depot → Rose (D.disk depot.old).faults (D.disk depot.new).faults }
@@ -285,7 +291,7 @@ fn read_form<D: Depot>(
     };
     Ok(WaveMap {
         len,
-        kind: kind_by(front.big),
+        kind: front.kind,
         form_end: end,
         ds64: sizing.ds64,
         parts: all.parts,
@@ -295,13 +301,17 @@ fn read_form<D: Depot>(
     })
 }
 
-fn kind_by(big: bool) -> Kind
-    ensures { result ≡ kind_from big }
+// The kind of a form: whether its sizes stand in `ds64`, and whether it is BW64.
+fn kind_by(big: bool, bw64: bool) -> Kind
+    ensures { result ≡ kind_from big bw64 }
 {
-    if big { Kind::Rf64 } else { Kind::Wave }
+    if !big {
+        return Kind::Wave;
+    }
+    if bw64 { Kind::Bw64 } else { Kind::Rf64 }
 }
 
-/// Reads a WAVE or RF64 file: its map, or the first reason for which it is refused, with its place. The depot is only read.
+/// Reads a WAVE, RF64 or BW64 file: its map, or the first reason for which it is refused, with its place. The depot is only read.
 /// `Depot` only where the count of the depot's faults rose. Whatever the depot, a map is sound: its ranges lie inside the
 /// length, its parts ascend, and its fields are lawful.
 pub fn read_wave<D: Depot>(alloc: Global, depot: &mut D) -> Result<WaveMap, ReadFault>

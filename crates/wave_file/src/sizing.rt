@@ -3,6 +3,7 @@ ghost use Rattle.std.specs.Prelude.{◌≡◌, ◌≤◌, ◌<◌, ◌+◌, ◌^
 ghost use Rattle.me_disk.specs.Causes.{Rose};
 ghost use Rattle.me_disk.specs.Steps.{ReadsOnly};
 ghost use Rattle.me_disk.specs.Holds.{Holds, Inside};
+ghost use Rattle.me_disk.specs.Windows.{IsWindow};
 ghost use Rattle.riff_form.specs.Walk.{InOrder};
 ghost use Rattle.wave_file.specs.Sized.{StepsAt, TellsSize, count_found, place_found, state_next, state_of, times};
 
@@ -91,11 +92,13 @@ pub fn next_chunk<D: Depot>(
     depot: &mut D,
 ) -> Result<Option<Found>, ReadFault>
     requires inside { Inside walker.old.end (D.disk depot.old) }
+    requires window { IsWindow (D.disk depot.old) walker.old.window }
     requires few { length sizing.old.wides.items < 2 ^ 32 }
     ensures steps { (b : List ℕ) → Holds (D.disk depot.old) b → StepsAt b walker.old.at walker.old.end sizing.old sizing.new result }
     ensures order { IfOk result (λ found. IfSome found (λ f. InOrder walker.old.at walker.old.end f.chunk)) }
     ensures moved { IfOk result (λ found. walker.new.at ≡ place_found walker.old.at found) }
     ensures end { walker.new.end ≡ walker.old.end }
+    ensures window { IsWindow (D.disk depot.new) walker.new.window }
     ensures few { IfOk result (λ found. length sizing.new.wides.items ≤ length sizing.old.wides.items + count_found found) }
     ensures same { sizing.new.ds64 ≡ sizing.old.ds64 }
     ensures reads { ReadsOnly (D.disk depot.old) (D.disk depot.new) }

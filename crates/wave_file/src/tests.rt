@@ -126,6 +126,8 @@ fn maps_sizes_of_64_bits(rt: HostRuntime) -> Result<(), Fail> {
     assert_eq!(rt; map.parts.len(), 3);
     assert_eq!(rt; map.parts[0].role, Role::Sizes);
     assert_eq!(rt; map.parts[2].role, Role::Essence);
+    let twin = read(alloc, changed(alloc, &RF64_84, 0, 4, b"BW64")?)??;
+    assert_eq!(rt; twin.kind, Kind::Bw64);
     Ok(())
 }
 

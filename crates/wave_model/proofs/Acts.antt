@@ -22,8 +22,9 @@ use Rattle.carrier_model.specs.Info.{own_size, is_padding, list_run, made, remad
 use Rattle.carrier_model.proofs.Cells.{Makes, made_by, Unseen}
 use Rattle.carrier_model.proofs.Info.{made_padded, made_plain, id_of_four, padding_no_list}
 use Rattle.wave_model.specs.Fields.{has_id, is_bext, is_whole, is_info, is_marked, body_in, bodies}
-use Rattle.wave_model.specs.Carry.{info_part, edits_bext, whole_part, some_chunk, is_format, bext_by, bext_act, first_becomes, whole_by, whole_act, steps, Step}
-use Rattle.wave_model.proofs.Steps.{AllMake, OwnAct, AllOwn, Passes, AllPass}
+use Rattle.wave_model.specs.Carry.{info_part, edits_bext, whole_part, some_chunk, is_format, bext_by, bext_act, first_becomes, whole_by, whole_act, steps}
+use Rattle.carrier_model.specs.Steps.{Step}
+use Rattle.carrier_model.proofs.Steps.{AllMake, OwnAct, AllOwn, Passes, AllPass}
 
 -- ---- a property of all steps
 

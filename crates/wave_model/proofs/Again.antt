@@ -1,5 +1,5 @@
 -- A WAVE file that is spelled is read again.
-use Rattle.std.proofs.Common.{◌≡◌, ℕ, ◌-◌, ◌%◌, ◌^◌, ◌<◌, Bool, true, false, eqb, List, [], ◌∷◌, ◌++◌, length, take, drop, refl, sym, ap, ◌∙◌, append_assoc, arith, inl, inr}
+use Rattle.std.proofs.Common.{◌≡◌, ℕ, ◌-◌, ◌%◌, ◌^◌, ◌<◌, Bool, true, false, eqb, List, ◌++◌, length, take, drop, refl, sym, ap, ◌∙◌, append_assoc, arith, inl, inr}
 use Rattle.std.specs.Prelude.{◌&&◌}
 use Rattle.std.specs.Int.{w32, to_le_bytes, from_le_bytes}
 use Rattle.std.proofs.lemmas.Bool.{ne_eqb, cond-true, cond-false}
@@ -9,25 +9,15 @@ use Rattle.container_model.specs.Chunk.{Form, riff, wide, Chunk, pad_len, spell,
 use Rattle.container_model.specs.Sizes.{Sizes, riff_front}
 use Rattle.container_model.proofs.Codec.{chunks_spelled}
 use Rattle.container_model.proofs.Units.{spell_all-append}
+use Rattle.carrier_model.proofs.RiffForm.{IsForm, field_of, header_is, field_len}
 use Rattle.container_model.specs.Ds64.{le32, le64}
 use Rattle.wave_model.specs.Wave.{is_big, is_wide, form_kind, form_size, form_body, behind_form, sizes_of, form_run, firsts, others, Wave, wave_of, inner, spell_wave}
-
--- the field of a form's header
-abbrev pub field_of : Form → ℕ → List ℕ
-field_of wide n = 255 ∷ 255 ∷ 255 ∷ 255 ∷ []
-field_of _ n = to_le_bytes w32 n
 
 -- A form's size stands in its own field, or in ds64.
 abbrev pub FormFine : Form → List ℕ → ℕ → Type 0
 FormFine riff id n = (n < 2 ^ 32) × (is_big id ≡ true → n < 2 ^ 32 - 1)
 FormFine wide id n = is_big id ≡ true
 FormFine _ id n = ⊥
-
--- RIFF's own field, or FFFFFFFF
-abbrev pub IsForm : Form → Type 0
-IsForm riff = Unit {0}
-IsForm wide = Unit {0}
-IsForm _ = ⊥
 
 pub is_form : (form : Form) (id : List ℕ) (n : ℕ) → FormFine form id n → IsForm form
 is_form riff id n f = tt
@@ -52,21 +42,6 @@ pad_taken n pad more (inl e) = (take_at pad more (n % 2) e, drop_at pad more (n 
 pad_taken n pad more (inr h) =
     (rw (h.1, append-nil) (take_all (n % 2) pad h.0), rw (h.1, append-nil) (drop_all (n % 2) pad h.0))
 
-header_is : (form : Form) (id : List ℕ) (n : ℕ) → IsForm form → header_bytes form id n ≡ id ++ field_of form n
-header_is riff id n f = refl
-header_is wide id n f = refl
-header_is Rattle.container_model.specs.Chunk.short id n f = absurd f
-header_is Rattle.container_model.specs.Chunk.long id n f = absurd f
-header_is Rattle.container_model.specs.Chunk.to_end id n f = absurd f
-
-pub field_len : (form : Form) (n : ℕ) → length (field_of form n) ≡ 4
-field_len riff n = refl
-field_len wide n = refl
-field_len Rattle.container_model.specs.Chunk.short n = refl
-field_len Rattle.container_model.specs.Chunk.long n = refl
-field_len Rattle.container_model.specs.Chunk.to_end n = refl
-
--- a file as its header's two fields, its form, and what is behind
 pub spelled : (w : Wave) → IsForm w.form → spell_wave w ≡ w.id ++ (field_of w.form (length (inner w)) ++ (inner w ++ (w.pad ++ w.tail)))
 spelled w f = ap (λ (x : List ℕ). (x ++ (inner w ++ w.pad)) ++ w.tail) (header_is w.form w.id (length (inner w)) f) ∙ regroup w.id (field_of w.form (length (inner w))) (inner w) w.pad w.tail
   where

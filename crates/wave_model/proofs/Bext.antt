@@ -4,7 +4,7 @@ use Rattle.std.specs.Prelude.{◌⊎◌}
 use Rattle.std.proofs.lemmas.Bool.{cases_lt}
 use Rattle.std.proofs.lemmas.List.{length-append, length-take, length-drop, take-append-le}
 use Rattle.part_tree.specs.declared.field.FieldName.{FieldName}
-use Rattle.part_tree.specs.declared.field.FieldName.TheVariants.{Bext, Info, Whole, User}
+use Rattle.part_tree.specs.declared.field.FieldName.TheVariants.{Bext, Info, Whole}
 use Rattle.part_tree.specs.declared.field.Value.{Value}
 use Rattle.part_tree.specs.Names.{bext_row}
 use Rattle.me_bytes.specs.Bytes.{le_bytes}
@@ -73,7 +73,7 @@ item_body (Bext field) (Some v) b f h = go (bext_row field) (row_small field) f.
         by (inr le) g = let last : j ≡ 14 = omega arith in rw last (last_body v.raw b (s last) h)
 item_body (Info id) v b f h = h
 item_body (Whole id) v b f h = h
-item_body (User id) v b f h = h
+item_body name v b f h = h
 
 items_body : (e : List RawItem) (b : List ℕ) → ItemsFine e → IsBody b → IsBody (lay_items e b)
 items_body [] b f h = h
@@ -95,4 +95,4 @@ fit_bext (i ∷ e) f = (one i.name i.value f.0, fit_bext e f.1)
     one (Bext field) (Some v) h = (h.0, h.1)
     one (Info id) v h = tt
     one (Whole id) v h = tt
-    one (User id) v h = tt
+    one name v h = tt

@@ -7,7 +7,7 @@ use Rattle.std.proofs.lemmas.List.{length-append, append-nil}
 use Rattle.std.proofs.lemmas.List.Concat.{flat_map-append}
 use Rattle.container_model.specs.Chunk.{Chunk, spell_all, PadStands, Pads, Heads}
 use Rattle.container_model.specs.Sizes.{Sizes, riff_front}
-use Rattle.container_model.specs.Units.{Cell, kept, gap, edited, was, live, lacks_pad, is_empty, shut, begun, units, kept_next, Fill, lay}
+use Rattle.container_model.specs.Units.{Cell, kept, gap, edited, was, live, lacks_pad, is_empty, shut, units, Fill, lay}
 use Rattle.container_model.proofs.Codec.{as_many}
 use Rattle.container_model.proofs.Units.{AllCells}
 use Rattle.container_model.proofs.Reread.{CellPads, Neutral}
@@ -15,7 +15,7 @@ use Rattle.carrier_model.specs.Info.{own_size, is_padding, riff_fill, fill_by}
 use Rattle.carrier_model.proofs.Cells.{Gaps}
 use Rattle.carrier_model.proofs.Views.{laid_view}
 use Rattle.wave_model.specs.Wave.{cell_by, cell_of, cells_behind}
-use Rattle.wave_model.proofs.Steps.{NowCells, Own, KeptHeads, same_state, FirstKept}
+use Rattle.carrier_model.proofs.Steps.{NowCells, Own, KeptHeads, same_state, FirstKept}
 
 -- ---- what holds of the cells
 
@@ -44,6 +44,20 @@ pub gaps_cells : (P : Chunk → Type 0) → ((c : Chunk) → is_padding c ≡ tr
 gaps_cells P p [] [] = tt
 gaps_cells P p [] (c ∷ cs) = gaps_rest P p cs
 gaps_cells P p (d ∷ ds) cs = gaps_rest P p cs
+
+gaps_all : (P : Chunk → Type 0) (cs : List Chunk) → AllByRecursion P cs → Gaps P (map cell_of cs)
+gaps_all P [] h = tt
+gaps_all P (c ∷ cs) h = one (is_padding c) (gaps_all P cs h.1)
+  where
+    one : (t : Bool) → Gaps P (map cell_of cs) → Gaps P (cell_by c t ∷ map cell_of cs)
+    one true g = (h.0, g)
+    one false g = g
+
+-- padding has what all chunks have
+pub gaps_from : (P : Chunk → Type 0) (ds cs : List Chunk) → AllByRecursion P cs → Gaps P (cells_behind ds cs)
+gaps_from P [] [] h = tt
+gaps_from P [] (c ∷ cs) h = gaps_all P cs h.1
+gaps_from P (d ∷ ds) cs h = gaps_all P cs h
 
 all_rest : (P : Chunk → Type 0) (cs : List Chunk) → AllByRecursion P cs → AllCells P (map cell_of cs)
 all_rest P [] h = tt
@@ -135,6 +149,10 @@ module _ {X : Type 0} (v : Chunk → List X) (h : Ignores v) where
       each (gap c ∷ xs) g = (h.padding c g.0, each xs g.1)
       each (edited old now ∷ xs) g = each xs g
 
+pub no_chunks : (cs : List Chunk) (left : List ℕ) → spell_all cs ++ left ≡ [] → cs ≡ []
+no_chunks [] left n = refl
+no_chunks (c ∷ cs) left n = absurd (omega (arith, as_many (c ∷ cs), length-append (spell_all (c ∷ cs)) left, ap length n))
+
 -- ---- nothing is changed where nothing is edited
 
 abbrev pub NoEdits : List Cell → Type 0
@@ -182,19 +200,9 @@ still_all fill (edited old now ∷ xs) left h p = absurd h
 
 abbrev pub FirstIs : Chunk → List Chunk → Type 0
 FirstIs c [] = ⊥
-FirstIs c (d ∷ ds) = (d.form ≡ c.form) × (d.id ≡ c.id) × (d.body ≡ c.body)
+FirstIs c (d ∷ ds) = d ≡ c
 
-first_begun : (fill : Fill) (c : Chunk) (slot : List ℕ) (now : List Chunk) (xs : List Cell) → FirstIs c (lay fill (units (begun (c ∷ []) slot now) xs))
+-- a chunk whose pad stands is copied
+pub first_laid : (fill : Fill) (c : Chunk) (xs : List Cell) → lacks_pad c ≡ false → FirstKept c xs → FirstIs c (lay fill (units shut xs))
 unfolding units
-first_begun fill c slot now [] = (refl, refl, refl)
-first_begun fill c slot now (kept d ∷ xs) = (refl, refl, refl)
-first_begun fill c slot now (gap d ∷ xs) = first_begun fill c (slot ++ Rattle.container_model.specs.Chunk.spell d) now xs
-first_begun fill c slot now (edited old new ∷ xs) = first_begun fill c (slot ++ spell_all old) (now ++ new) xs
-
-pub first_laid : (fill : Fill) (c : Chunk) (xs : List Cell) → FirstKept c xs → FirstIs c (lay fill (units shut xs))
-unfolding units
-first_laid fill c xs k = rw k.1 (go (lacks_pad c && not (is_empty k.0)))
-  where
-    go : (t : Bool) → FirstIs c (lay fill (kept_next t c (λ u. units u k.0)))
-    go true = first_begun fill c [] [] k.0
-    go false = (refl, refl, refl)
+first_laid fill c xs whole k = rw k.1 (rw whole refl)

@@ -4,12 +4,12 @@ use Rattle.std.specs.Prelude.{◌&&◌, ◌||◌, codes}
 use Rattle.std.specs.Int.{w64, to_le_bytes, from_le_bytes}
 use Rattle.std.specs.Str.{bytes_eq}
 use Rattle.std.specs.List.{flat_map, AllByRecursion}
-use Rattle.std.proofs.lemmas.Bool.{cond-true, cond-false}
+use Rattle.std.proofs.lemmas.Bool.{cond-true, cond-false, le-ltb}
 use Rattle.std.proofs.lemmas.Nat.{from_le_bytes-to_le_bytes_8}
 use Rattle.std.proofs.lemmas.List.{length-append, length-drop, take_at, drop_at, drop-drop}
 use Rattle.part_tree.specs.declared.field.BextField.{BextField}
 use Rattle.part_tree.specs.declared.field.FieldName.{FieldName}
-use Rattle.part_tree.specs.declared.field.FieldName.TheVariants.{Bext, Info, Whole, User}
+use Rattle.part_tree.specs.declared.field.FieldName.TheVariants.{Bext, Info, Whole, User, Key, Stream}
 use Rattle.part_tree.specs.declared.field.Value.{Value}
 use Rattle.part_tree.specs.Names.{bext_row, same_name, IsFieldName}
 use Rattle.field_model.specs.Bext.{range_of}
@@ -17,7 +17,7 @@ use Rattle.field_model.specs.Fields.{FieldMap, plain}
 use Rattle.field_model.specs.Update.{RawItem, updated, updated_values, raised_values, needed, made}
 use Rattle.container_model.specs.Chunk.{Form, riff, wide, short, long, to_end, Chunk, spell, spell_all, header_bytes, ends, Run, Heads, Pads, PadStands, Reads}
 use Rattle.container_model.specs.Sizes.{plain as plain_sizes, riff_front}
-use Rattle.container_model.specs.Units.{live}
+use Rattle.container_model.specs.Units.{live, lacks_pad}
 use Rattle.container_model.proofs.Codec.{IsBytes, reads_from}
 use Rattle.container_model.proofs.Plain.{rest_is}
 use Rattle.container_model.proofs.Reread.{Neutral}
@@ -30,12 +30,13 @@ use Rattle.carrier_model.proofs.Info.{fill_all, padding_no_list}
 use Rattle.container_model.specs.Ds64.{le32, le64, table_of}
 use Rattle.wave_model.specs.Wave.{is_big, is_wide, form_kind, form_size, sizes_of, form_run, firsts, others, Wave, wave_of, inner, spell_wave, cells_of, cells_behind}
 use Rattle.wave_model.specs.Fields.{has_id, is_bext, is_whole, is_info, is_marked, body_in, bodies, fields_of, fields, plain_nodes, nodes_of, nodes}
-use Rattle.wave_model.specs.Carry.{edits_bext, steps, carried, stepped, placed}
+use Rattle.wave_model.specs.Carry.{edits_bext, steps, placed}
+use Rattle.carrier_model.specs.Steps.{carried, stepped}
 use Rattle.wave_model.specs.New.{ends_file, fill_of, new_children, new_size, with_riff_size, sized_ds64, new_wave}
 use Rattle.wave_model.specs.Edited.{blocks_by, formats, sounds, pieces_in, ds64_node, is_carrier, ChunkFine, IsFormat, parts, ChildrenFine, Ds64Fine, is_kind, Supported, junk_first, first_junk}
 use Rattle.wave_model.specs.Large.{FormSmall}
 use Rattle.wave_model.proofs.Read.{neutral}
-use Rattle.wave_model.proofs.Steps.{live_carried, gaps_carried, first_carried}
+use Rattle.carrier_model.proofs.Steps.{live_carried, gaps_carried, first_carried}
 use Rattle.wave_model.proofs.Acts.{all_pass, bext_after, other_id, whole_after}
 use Rattle.wave_model.proofs.Ready.{ListEnds}
 use Rattle.wave_model.proofs.Values.{ItemFine, ItemsFine, format_bodies, sound_bodies, all_bext, all_whole, all_info, all_nodes, info_updated, whole_updated}
@@ -44,8 +45,8 @@ use Rattle.wave_model.proofs.Bext.{IsBody, fit_bext}
 use Rattle.wave_model.proofs.Again.{FormFine, is_form, Readable, id_at, body_at, wave_again, run_is, size_is, id_is}
 use Rattle.wave_model.proofs.Ds64.{IsDs64, HasDs64, first_id, first_size, first_rows, at_twenty, table_same}
 use Rattle.wave_model.proofs.Form.{form_fine, old_form, behind_body, old_pad, old_pads, old_left, has_ds64}
-use Rattle.wave_model.proofs.Cells.{Ignores, gaps_cells, FirstIs, first_laid}
-use Rattle.wave_model.proofs.New.{Fits, pad_stands, ignores_body, ignores_bext, ignores_whole, CarrierSmall, old_live, seen, old_seen, old_bexts, new_bexts, new_small, ready, new_ends, new_heads, new_pads}
+use Rattle.wave_model.proofs.Cells.{no_chunks, Ignores, gaps_cells, FirstIs, first_laid}
+use Rattle.wave_model.proofs.New.{Fits, ListsSmall, pad_stands, ignores_body, ignores_bext, ignores_whole, CarrierSmall, old_live, seen, old_seen, old_bexts, new_bexts, new_small, ready, pads_behind, new_ends, new_heads, new_pads}
 
 pub apart : (t : Bool) → t ≡ false → t ≡ true → ⊥
 apart true x y = absurd cc
@@ -140,12 +141,13 @@ first_of false ds cs h = (sym h, ap (λ (x : List Chunk). x ++ cs) h)
 first_of true ds cs h = (ap (λ (x : List Chunk). firsts true (x ++ cs)) h.1 ∙ sym h.1, ap (λ (x : List Chunk). others true (x ++ cs)) h.1)
 
 pub kind_len : (id : List ℕ) → is_kind id ≡ true → length id ≡ 4
-kind_len id e = go (bytes_eq id (codes "RIFF")) (bytes_eq id (codes "RF64")) refl refl e
+kind_len id e = go (bytes_eq id (codes "RIFF")) (bytes_eq id (codes "RF64")) (bytes_eq id (codes "BW64")) refl refl refl e
   where
-    go : (t u : Bool) → bytes_eq id (codes "RIFF") ≡ t → bytes_eq id (codes "RF64") ≡ u → ((t || false) || (u || false)) ≡ true → length id ≡ 4
-    go true u x y e = ap length (same_true id (codes "RIFF") x)
-    go false true x y e = ap length (same_true id (codes "RF64") y)
-    go false false x y e = absurd cc
+    go : (t u v : Bool) → bytes_eq id (codes "RIFF") ≡ t → bytes_eq id (codes "RF64") ≡ u → bytes_eq id (codes "BW64") ≡ v → ((t || false) || (u || (v || false))) ≡ true → length id ≡ 4
+    go true u v x y z e = ap length (same_true id (codes "RIFF") x)
+    go false true v x y z e = ap length (same_true id (codes "RF64") y)
+    go false false true x y z e = ap length (same_true id (codes "BW64") z)
+    go false false false x y z e = absurd cc
 
 -- ---- a file that is read again is supported, where its chunks are fine
 
@@ -197,15 +199,33 @@ bext_some field e f [] i h n l b = sym (bext_made e f field (fit_bext e i) n h)
 bext_some field e f (x ∷ []) i h n l b = sym (bext_edited e f x field b.0.0 (fit_bext e i) h)
 bext_some field e f (x ∷ (y ∷ bs)) i h n l b = absurd (omega arith)
 
-user_none : (e : List RawItem) → ItemsFine e → (id : Rattle.part_tree.specs.declared.names.FourCc.FourCc) → [] ≡ updated_values e (User id) []
-user_none [] f id = refl
-user_none (i ∷ e) f id = user_none e f.1 id ∙ ap (updated_values e (User id)) (one i.name i.value f.0)
+-- a name that no sound file can have
+abbrev IsStrange : FieldName → Type 0
+IsStrange (Bext field) = ⊥
+IsStrange (Info id) = ⊥
+IsStrange (Whole id) = ⊥
+IsStrange name = Unit {0}
+
+strange_none : (e : List RawItem) → ItemsFine e → (name : FieldName) → IsStrange name → [] ≡ updated_values e name []
+strange_none [] f name s = refl
+strange_none (i ∷ e) f name s = strange_none e f.1 name s ∙ ap (updated_values e name) (one i.name name i.value f.0 s)
   where
-    one : (name : FieldName) (v : Option Value) → ItemFine name v → [] ≡ cond (same_name name (User id)) (Rattle.field_model.specs.Update.listed v) []
-    one (Bext field) v h = refl
-    one (Info x) v h = refl
-    one (Whole x) v h = refl
-    one (User x) v h = absurd h
+    one : (a b : FieldName) (v : Option Value) → ItemFine a v → IsStrange b → [] ≡ cond (same_name a b) (Rattle.field_model.specs.Update.listed v) []
+    one (Bext field) (User y) v h s = refl
+    one (Bext field) (Key y) v h s = refl
+    one (Bext field) (Stream y) v h s = refl
+    one (Info x) (User y) v h s = refl
+    one (Info x) (Key y) v h s = refl
+    one (Info x) (Stream y) v h s = refl
+    one (Whole x) (User y) v h s = refl
+    one (Whole x) (Key y) v h s = refl
+    one (Whole x) (Stream y) v h s = refl
+    one (User x) b v h s = absurd h
+    one (Key x) b v h s = absurd h
+    one (Stream x) b v h s = absurd h
+    one a (Bext field) v h s = absurd s
+    one a (Info y) v h s = absurd s
+    one a (Whole y) v h s = absurd s
 
 -- ---- a first JUNK
 
@@ -216,14 +236,16 @@ first_bytes d (x ∷ xs) = x
 pub first_one : (x : List ℕ) (xs : List (List ℕ)) (y : List ℕ) → x ∷ xs ≡ y ∷ [] → x ≡ y
 first_one x xs y q = ap (first_bytes x) q
 
-one_body : (x y : List ℕ) → x ∷ [] ≡ y ∷ [] → x ≡ y
-one_body x y q = ap (first_bytes x) q
+abbrev first_chunk : Chunk → List Chunk → Chunk
+first_chunk d [] = d
+first_chunk d (c ∷ cs) = c
 
-junk_of : (c : Chunk) (cs : List Chunk) (body : List ℕ) → FirstIs c cs → is_padding c ≡ true → c.body ≡ body → junk_first cs ≡ body ∷ []
-junk_of c [] body h j e = absurd h
-junk_of c (d ∷ ds) body h j e =
-    let p : is_padding d ≡ true = ap (λ (f : Form). own_size f && bytes_eq d.id (codes "JUNK")) h.0 ∙ ap (λ (i : List ℕ). own_size c.form && bytes_eq i (codes "JUNK")) h.1 ∙ j in
-    cond-true (is_padding d) (d.body ∷ []) [] p ∙ ap (λ (x : List ℕ). x ∷ []) (h.2 ∙ e)
+pub one_chunk : (x y : Chunk) → x ∷ [] ≡ y ∷ [] → x ≡ y
+one_chunk x y q = ap (first_chunk x) q
+
+junk_of : (c : Chunk) (cs : List Chunk) → FirstIs c cs → is_padding c ≡ true → junk_first cs ≡ c ∷ []
+junk_of c [] h j = absurd h
+junk_of c (d ∷ ds) h j = subst (λ (x : Chunk). junk_first (x ∷ ds) ≡ c ∷ []) (sym h) (cond-true (is_padding c) (c ∷ []) [] j)
 
 -- ---- the new file
 
@@ -236,7 +258,54 @@ module _ (o : List ℕ) (bytes : IsBytes o) (sup : Supported o) (e : List RawIte
       let rest = spell_all (new_children (wave_of o) e) ++ (wave_of o).left in
       omega (arith, total_len (is_big (take 4 o)) (wave_of o).form (new_size (wave_of o) e) (wave_of o).ds64 sized, length-append (spell_all (sized_ds64 (wave_of o).form (new_size (wave_of o) e) (wave_of o).ds64)) rest, length-append (spell_all (wave_of o).ds64) rest)
 
-module _ (o : List ℕ) (bytes : IsBytes o) (sup : Supported o) (e : List RawItem) (f : ItemsFine e) (fits : Fits (wave_of o) e) where
+  -- ---- the first chunk
+
+  -- the pad of padding that comes first stands, for a format comes behind it
+  pub first_whole : (c : Chunk) (cs : List Chunk) → (wave_of o).children ≡ c ∷ cs → is_padding c ≡ true → lacks_pad c ≡ false
+  first_whole c cs b j = go (subst (λ (xs : List Chunk). Pads xs (wave_of o).left) b (pads_behind o bytes sup)).0
+    where
+      silent : (xs : List Chunk) → xs ≡ [] → length (formats (c ∷ xs)) ≡ 0
+      silent xs i = ap (λ (ys : List Chunk). length (formats (c ∷ ys))) i ∙ rw (other_id (codes "fmt ") c refl j) refl
+
+      go : PadStands c.form (length c.body) c.pad (spell_all cs ++ (wave_of o).left) → lacks_pad c ≡ false
+      go (inl l) = le-ltb (length c.pad) (Rattle.container_model.specs.Chunk.pad_len c.form (length c.body)) (omega arith)
+      go (inr r) =
+          let one : length (formats (c ∷ cs)) ≡ 1 = sym (ap (λ (xs : List Chunk). length (formats xs)) b) ∙ sup.children.one_format in
+          absurd (omega (arith, one, silent cs (no_chunks cs (wave_of o).left r.1)))
+
+  pub new_junk : (c : Chunk) → first_junk (wave_of o) ≡ c ∷ [] → first_junk (new_wave (wave_of o) e) ≡ c ∷ []
+  new_junk c h = go (is_big (take 4 o)) sized
+    where
+      w : Wave
+      w = wave_of o
+
+      plain_first : (cs : List Chunk) → w.ds64 ≡ [] → w.children ≡ cs → junk_first cs ≡ c ∷ [] → junk_first (new_children w e) ≡ c ∷ []
+      plain_first [] a b j = absurd cc
+      plain_first (d ∷ cs) a b j = by (is_padding d) refl
+        where
+          cells : cells_of w ≡ Rattle.container_model.specs.Units.kept d ∷ map Rattle.wave_model.specs.Wave.cell_of cs
+          cells = ap (λ (ds : List Chunk). cells_behind ds w.children) a ∙ ap (cells_behind []) b
+
+          by : (t : Bool) → is_padding d ≡ t → junk_first (new_children w e) ≡ c ∷ []
+          by true p =
+              let same : d ∷ [] ≡ c ∷ [] = sym (cond-true (is_padding d) (d ∷ []) [] p) ∙ j in
+              junk_of d (new_children w e) (first_laid (fill_of w) d (carried (steps e) (cells_of w)) (first_whole d cs b p) (first_carried d (steps e) (all_pass e d p) (cells_of w) (map Rattle.wave_model.specs.Wave.cell_of cs, cells))) p ∙ same
+          by false p = let none : junk_first (d ∷ cs) ≡ [] = cond-false (is_padding d) _ _ p in absurd cc
+
+      go : (t : Bool) → Sized t w.form (new_size w e) w.ds64 → first_junk (new_wave w e) ≡ c ∷ []
+      go false s =
+          let old : junk_first w.children ≡ c ∷ [] = sym (ap (λ (ds : List Chunk). junk_first (ds ++ w.children)) s.0) ∙ h in
+          ap (λ (ds : List Chunk). junk_first (ds ++ new_children w e)) s.1 ∙ plain_first w.children s.0 refl old
+      go true s =
+          let no : is_padding s.0 ≡ false = ap (λ (i : List ℕ). own_size s.0.form && bytes_eq i (codes "JUNK")) s.2.id_is ∙ both (own_size s.0.form) in
+          let none : first_junk w ≡ [] = ap (λ (ds : List Chunk). junk_first (ds ++ w.children)) s.1 ∙ cond-false (is_padding s.0) _ _ no in
+          absurd cc
+        where
+          both : (t : Bool) → (t && false) ≡ false
+          both true = refl
+          both false = refl
+
+module _ (o : List ℕ) (bytes : IsBytes o) (sup : Supported o) (e : List RawItem) (f : ItemsFine e) (small : ListsSmall (wave_of o) e) where
   abbrev w : Wave
   w = wave_of o
 
@@ -249,8 +318,8 @@ module _ (o : List ℕ) (bytes : IsBytes o) (sup : Supported o) (e : List RawIte
   all_sized : Sized (is_big (take 4 o)) (wave_of o).form (new_size (wave_of o) e) (wave_of o).ds64
   all_sized = sized o bytes sup e
 
-  new_fine : FormFine (new_wave (wave_of o) e).form (new_wave (wave_of o) e).id (length (inner (new_wave (wave_of o) e)))
-  new_fine = rw new_len (go w.form (form_fine o bytes sup) fits.form)
+  new_fine : Fits (wave_of o) e → FormFine (new_wave (wave_of o) e).form (new_wave (wave_of o) e).id (length (inner (new_wave (wave_of o) e)))
+  new_fine fits = rw new_len (go w.form (form_fine o bytes sup) fits.form)
     where
       go : (form : Form) → FormFine form w.id (length (inner w)) → FormSmall form w.id (new_size w e) → FormFine form w.id (new_size w e)
       go riff g s = by (is_big w.id) refl s
@@ -263,7 +332,7 @@ module _ (o : List ℕ) (bytes : IsBytes o) (sup : Supported o) (e : List RawIte
       go long g s = absurd g
       go to_end g s = absurd g
 
-  id_len : length (take 4 o) ≡ 4
+  pub id_len : length (take 4 o) ≡ 4
   id_len = kind_len (take 4 o) sup.form_id
 
   new_eight : drop 8 (spell_wave (new_wave (wave_of o) e)) ≡ inner (new_wave (wave_of o) e) ++ ((new_wave (wave_of o) e).pad ++ (new_wave (wave_of o) e).tail)
@@ -286,8 +355,8 @@ module _ (o : List ℕ) (bytes : IsBytes o) (sup : Supported o) (e : List RawIte
           let old = at_twenty o w (behind_body o bytes sup) d h.1 h.2.form_is (ap length h.2.id_is) (omega (arith, h.2.small)) in
           ap table_of new ∙ table_same x.body d.body _ _ s.behind s.len i.long i.holds_rows ∙ sym (ap table_of old)
 
-  riff_size_is : (new_wave (wave_of o) e).form ≡ wide → le64 (drop 20 (spell_wave (new_wave (wave_of o) e))) ≡ length (inner (new_wave (wave_of o) e))
-  riff_size_is form = go (is_big (take 4 o)) refl all_sized
+  riff_size_is : Fits (wave_of o) e → (new_wave (wave_of o) e).form ≡ wide → le64 (drop 20 (spell_wave (new_wave (wave_of o) e))) ≡ length (inner (new_wave (wave_of o) e))
+  riff_size_is fits form = go (is_big (take 4 o)) refl all_sized
     where
       big : is_big (take 4 o) ≡ true
       big = let g : FormFine wide w.id (length (inner w)) = rw form at (form_fine o bytes sup) in g
@@ -316,11 +385,11 @@ module _ (o : List ℕ) (bytes : IsBytes o) (sup : Supported o) (e : List RawIte
   all_heads = go (is_big (take 4 o)) new_ds64
     where
       go : (t : Bool) → HasDs64 t n.ds64 → Heads riff_front (sizes_of o) (n.ds64 ++ new_children w e)
-      go false h = subst (λ (ds : List Chunk). Heads riff_front (sizes_of o) (ds ++ new_children w e)) (sym h) (new_heads o bytes sup e f fits)
+      go false h = subst (λ (ds : List Chunk). Heads riff_front (sizes_of o) (ds ++ new_children w e)) (sym h) (new_heads o bytes sup e f small)
       go true h =
           let i = h.2 in
           let m : Neutral riff_front h.0 = neutral h.0 (ap length i.id_is) i.form_is (omega (arith, i.small)) in
-          subst (λ (ds : List Chunk). Heads riff_front (sizes_of o) (ds ++ new_children w e)) (sym h.1) (sizes_of o, m (sizes_of o), new_heads o bytes sup e f fits)
+          subst (λ (ds : List Chunk). Heads riff_front (sizes_of o) (ds ++ new_children w e)) (sym h.1) (sizes_of o, m (sizes_of o), new_heads o bytes sup e f small)
 
   some_child : spell_all (wave_of o).children ++ (wave_of o).left ≡ [] → ⊥
   some_child none = go (wave_of o).children sup.children.one_format none
@@ -333,26 +402,26 @@ module _ (o : List ℕ) (bytes : IsBytes o) (sup : Supported o) (e : List RawIte
   all_pads = go (is_big (take 4 o)) all_sized (old_pads o bytes sup)
     where
       go : (t : Bool) → Sized t w.form (new_size w e) w.ds64 → Pads (w.ds64 ++ w.children) w.left → Pads (n.ds64 ++ new_children w e) w.left
-      go false h p = subst (λ (ds : List Chunk). Pads (ds ++ new_children w e) w.left) (sym h.1) (new_pads o bytes sup e f fits)
+      go false h p = subst (λ (ds : List Chunk). Pads (ds ++ new_children w e) w.left) (sym h.1) (new_pads o bytes sup e f small)
       go true h p =
           let d = h.0 in
           let x = sized_one w.form (new_size w e) d in
           let s = one_same w.form (new_size w e) d (omega (arith, h.2.long)) in
           let old : Pads ((d ∷ []) ++ w.children) w.left = subst (λ (ds : List Chunk). Pads (ds ++ w.children) w.left) h.1 p in
-          subst (λ (ds : List Chunk). Pads (ds ++ new_children w e) w.left) (sym h.3) (pad d x s old.0, new_pads o bytes sup e f fits)
+          subst (λ (ds : List Chunk). Pads (ds ++ new_children w e) w.left) (sym h.3) (pad d x s old.0, new_pads o bytes sup e f small)
         where
           pad : (d x : Chunk) → SameButSize d x → PadStands d.form (length d.body) d.pad (spell_all w.children ++ w.left) → PadStands x.form (length x.body) x.pad (spell_all (new_children w e) ++ w.left)
           pad d x s (inl l) =
               inl (ap length s.pad_is ∙ l ∙ ap (λ (g : Form). Rattle.container_model.specs.Chunk.pad_len g (length d.body)) (sym s.form_is) ∙ ap (Rattle.container_model.specs.Chunk.pad_len x.form) (sym s.len))
           pad d x s (inr r) = absurd (some_child r.1)
 
-  new_readable : Readable (new_wave (wave_of o) e)
-  new_readable =
+  new_readable : Fits (wave_of o) e → Readable (new_wave (wave_of o) e)
+  new_readable fits =
       let first = first_of (is_big (take 4 o)) n.ds64 (new_children w e) new_ds64 in
       record {
         id_len = id_len;
-        form_fine = new_fine;
-        riff_size = riff_size_is;
+        form_fine = new_fine fits;
+        riff_size = riff_size_is fits;
         state = sizes_of o;
         state_is = same_sizes;
         reads = reads_from riff_front (sizes_of o) (n.ds64 ++ new_children w e) w.left all_heads all_pads (rest_is w.left (old_left o bytes sup));
@@ -361,13 +430,13 @@ module _ (o : List ℕ) (bytes : IsBytes o) (sup : Supported o) (e : List RawIte
         form_pad = rw new_len (pad_stands (length (inner w)) (new_size w e) w.pad w.tail (old_pad o bytes sup));
       }
 
-  pub new_again : wave_of (spell_wave (new_wave (wave_of o) e)) ≡ new_wave (wave_of o) e
-  new_again = wave_again (new_wave (wave_of o) e) new_readable
+  pub new_again : Fits (wave_of o) e → wave_of (spell_wave (new_wave (wave_of o) e)) ≡ new_wave (wave_of o) e
+  new_again fits = wave_again (new_wave (wave_of o) e) (new_readable fits)
 
   -- ---- fields
 
-  new_bodies : (p : Chunk → Bool) → Ignores (body_in p) → bodies p (new_children (wave_of o) e) ≡ bodies p (stepped (steps e) (old_live o bytes sup e f fits))
-  new_bodies p h = seen o bytes sup e f fits (body_in p) h
+  new_bodies : (p : Chunk → Bool) → Ignores (body_in p) → bodies p (new_children (wave_of o) e) ≡ bodies p (stepped (steps e) (old_live o bytes sup e f small))
+  new_bodies p h = seen o bytes sup e f small (body_in p) h
 
   not_padding : (id : List ℕ) → bytes_eq id (codes "JUNK") ≡ false → Ignores (body_in (has_id id))
   not_padding id x = ignores_body (has_id id) (λ c j. other_id id c x j) (λ c. refl)
@@ -379,23 +448,25 @@ module _ (o : List ℕ) (bytes : IsBytes o) (sup : Supported o) (e : List RawIte
   new_fields (Bext field) k =
       let bs = bodies is_bext w.children in
       let same : bodies is_bext (new_children w e) ≡ bext_after e (edits_bext e) bs
-      = new_bodies is_bext ignores_bext ∙ all_bext e (old_live o bytes sup e f fits) ∙ ap (bext_after e (edits_bext e)) (old_seen o bytes sup e f fits (body_in is_bext) ignores_bext) in
+      = new_bodies is_bext ignores_bext ∙ all_bext e (old_live o bytes sup e f small) ∙ ap (bext_after e (edits_bext e)) (old_seen o bytes sup e f small (body_in is_bext) ignores_bext) in
       ap (λ (x : List (List ℕ)). map plain (map (range_of (bext_row field)) x)) same ∙ go (edits_bext e) refl
     where
       go : (t : Bool) → edits_bext e ≡ t → map plain (map (range_of (bext_row field)) (bext_after e t (bodies is_bext w.children))) ≡ updated e (fields o) (Bext field)
       go false x = bext_none field e (fields o) (bodies is_bext w.children) (λ g. refl) x
-      go true x = bext_some field e (fields o) (bodies is_bext w.children) f (λ g. refl) x sup.children.one_bext (old_bexts o bytes sup e f fits)
+      go true x = bext_some field e (fields o) (bodies is_bext w.children) f (λ g. refl) x sup.children.one_bext (old_bexts o bytes sup e f small)
   new_fields (Info id) k =
       ap (map plain)
-      (seen o bytes sup e f fits (values_held info info_items id.0) (ignores_held id.0) ∙ all_info e (old_live o bytes sup e f fits) (ready o bytes sup e f fits) id.0
-      ∙ ap (Rattle.container_model.specs.Items.updated (Rattle.wave_model.specs.Carry.info_part e) id.0) (old_seen o bytes sup e f fits (values_held info info_items id.0) (ignores_held id.0)))
+      (seen o bytes sup e f small (values_held info info_items id.0) (ignores_held id.0) ∙ all_info e (old_live o bytes sup e f small) (ready o bytes sup e f small) id.0
+      ∙ ap (Rattle.container_model.specs.Items.updated (Rattle.wave_model.specs.Carry.info_part e) id.0) (old_seen o bytes sup e f small (values_held info info_items id.0) (ignores_held id.0)))
       ∙ info_updated e f id.0 k (list_values info info_items id.0 w.children)
   new_fields (Whole id) k =
       ap (map plain)
-      (new_bodies (is_whole id.0) (ignores_whole id.0 k) ∙ all_whole id.0 k e (old_live o bytes sup e f fits)
-      ∙ ap (whole_after (Rattle.wave_model.specs.Carry.whole_part id.0 e)) (old_seen o bytes sup e f fits (body_in (is_whole id.0)) (ignores_whole id.0 k)))
+      (new_bodies (is_whole id.0) (ignores_whole id.0 k) ∙ all_whole id.0 k e (old_live o bytes sup e f small)
+      ∙ ap (whole_after (Rattle.wave_model.specs.Carry.whole_part id.0 e)) (old_seen o bytes sup e f small (body_in (is_whole id.0)) (ignores_whole id.0 k)))
       ∙ whole_updated e f id.0 (bodies (is_whole id.0) w.children)
-  new_fields (User id) k = user_none e f id
+  new_fields (User id) k = strange_none e f (User id) tt
+  new_fields (Key name) k = strange_none e f (Key name) tt
+  new_fields (Stream n) k = strange_none e f (Stream n) tt
 
   -- ---- nodes and pieces
 
@@ -404,13 +475,13 @@ module _ (o : List ℕ) (bytes : IsBytes o) (sup : Supported o) (e : List RawIte
 
   pub new_nodes : nodes (new_children (wave_of o) e) ≡ placed e (nodes (wave_of o).children)
   new_nodes =
-      seen o bytes sup e f fits nodes_of ignores_nodes ∙ all_nodes e (old_live o bytes sup e f fits) (ready o bytes sup e f fits) ∙ ap (placed e) (old_seen o bytes sup e f fits nodes_of ignores_nodes)
+      seen o bytes sup e f small nodes_of ignores_nodes ∙ all_nodes e (old_live o bytes sup e f small) (ready o bytes sup e f small) ∙ ap (placed e) (old_seen o bytes sup e f small nodes_of ignores_nodes)
 
-  same_formats : formats (new_children (wave_of o) e) ≡ formats (wave_of o).children
-  same_formats = new_bodies (has_id (codes "fmt ")) (not_padding (codes "fmt ") refl) ∙ format_bodies e (old_live o bytes sup e f fits) ∙ old_seen o bytes sup e f fits (body_in (has_id (codes "fmt "))) (not_padding (codes "fmt ") refl)
+  pub same_formats : formats (new_children (wave_of o) e) ≡ formats (wave_of o).children
+  same_formats = new_bodies (has_id (codes "fmt ")) (not_padding (codes "fmt ") refl) ∙ format_bodies e (old_live o bytes sup e f small) ∙ old_seen o bytes sup e f small (body_in (has_id (codes "fmt "))) (not_padding (codes "fmt ") refl)
 
-  same_sounds : sounds (new_children (wave_of o) e) ≡ sounds (wave_of o).children
-  same_sounds = new_bodies (has_id (codes "data")) (not_padding (codes "data") refl) ∙ sound_bodies e (old_live o bytes sup e f fits) ∙ old_seen o bytes sup e f fits (body_in (has_id (codes "data"))) (not_padding (codes "data") refl)
+  pub same_sounds : sounds (new_children (wave_of o) e) ≡ sounds (wave_of o).children
+  same_sounds = new_bodies (has_id (codes "data")) (not_padding (codes "data") refl) ∙ sound_bodies e (old_live o bytes sup e f small) ∙ old_seen o bytes sup e f small (body_in (has_id (codes "data"))) (not_padding (codes "data") refl)
 
   pub new_pieces : pieces_in (new_children (wave_of o) e) ≡ pieces_in (wave_of o).children
   new_pieces = ap (λ (x : List (List ℕ)). blocks_by x (sounds (new_children w e))) same_formats ∙ ap (blocks_by (formats w.children)) same_sounds
@@ -428,8 +499,8 @@ module _ (o : List ℕ) (bytes : IsBytes o) (sup : Supported o) (e : List RawIte
       go true i = ap (one_of (codes "bext" ∷ Rattle.part_tree.specs.Names.whole_ids)) i
       go false i = refl
 
-  live_fine : AllByRecursion ChunkFine (stepped (steps e) (old_live o bytes sup e f fits))
-  live_fine = both (stepped (steps e) (old_live o bytes sup e f fits)) (new_ends o bytes sup e f fits) (new_small o bytes sup e f fits)
+  live_fine : AllByRecursion ChunkFine (stepped (steps e) (old_live o bytes sup e f small))
+  live_fine = both (stepped (steps e) (old_live o bytes sup e f small)) (new_ends o bytes sup e f small) (new_small o bytes sup e f small)
     where
       both : (cs : List Chunk) → AllByRecursion ListEnds cs → AllByRecursion CarrierSmall cs → AllByRecursion ChunkFine cs
       both [] h g = tt
@@ -444,7 +515,7 @@ module _ (o : List ℕ) (bytes : IsBytes o) (sup : Supported o) (e : List RawIte
       (record { on_pads = λ c h. record { list_ends = h.list_ends; carrier_small = h.carrier_small }; on_fill = λ last slot k. fill_all ChunkFine (λ body. padding_fine (made_chunk (codes "JUNK") body) refl) (ends_file w) last slot k })
       Rattle.container_model.specs.Units.shut ys tt (cells_from ChunkFine ys (gaps_carried ChunkFine (steps e) xs (gaps_cells ChunkFine padding_fine w.ds64 w.children)) now)
 
-  new_children_fine : ChildrenFine (new_children (wave_of o) e)
+  pub new_children_fine : ChildrenFine (new_children (wave_of o) e)
   new_children_fine =
       let bext = new_bodies is_bext ignores_bext in
       record {
@@ -453,7 +524,7 @@ module _ (o : List ℕ) (bytes : IsBytes o) (sup : Supported o) (e : List RawIte
         are_formats = subst (λ (x : List (List ℕ)). AllByRecursion IsFormat x) (sym same_formats) sup.children.are_formats;
         one_sound = ap length same_sounds ∙ sup.children.one_sound;
         one_bext = one;
-        long_bext = subst (λ (x : List (List ℕ)). AllByRecursion (λ b. 602 ≤ length b) x) (sym bext) (longs (bodies is_bext (stepped (steps e) (old_live o bytes sup e f fits))) (new_bexts o bytes sup e f fits));
+        long_bext = subst (λ (x : List (List ℕ)). AllByRecursion (λ b. 602 ≤ length b) x) (sym bext) (longs (bodies is_bext (stepped (steps e) (old_live o bytes sup e f small))) (new_bexts o bytes sup e f small));
       }
     where
       longs : (bs : List (List ℕ)) → AllByRecursion IsBody bs → AllByRecursion (λ b. 602 ≤ length b) bs
@@ -469,39 +540,8 @@ module _ (o : List ℕ) (bytes : IsBytes o) (sup : Supported o) (e : List RawIte
       one : length (bodies is_bext (new_children w e)) ≤ 1
       one =
           let same : bodies is_bext (new_children w e) ≡ bext_after e (edits_bext e) (bodies is_bext w.children)
-          = new_bodies is_bext ignores_bext ∙ all_bext e (old_live o bytes sup e f fits) ∙ ap (bext_after e (edits_bext e)) (old_seen o bytes sup e f fits (body_in is_bext) ignores_bext) in
+          = new_bodies is_bext ignores_bext ∙ all_bext e (old_live o bytes sup e f small) ∙ ap (bext_after e (edits_bext e)) (old_seen o bytes sup e f small (body_in is_bext) ignores_bext) in
           omega (arith, ap length same, few (edits_bext e) (bodies is_bext w.children) sup.children.one_bext)
 
-  pub new_supported : Supported (spell_wave (new_wave (wave_of o) e))
-  new_supported = supported_again (new_wave (wave_of o) e) new_readable sup.form_id new_ds64 new_children_fine fits.few_parts
-
-  -- ---- the first chunk
-
-  pub new_junk : (body : List ℕ) → first_junk (wave_of o) ≡ body ∷ [] → first_junk (new_wave (wave_of o) e) ≡ body ∷ []
-  new_junk body h = go (is_big (take 4 o)) all_sized
-    where
-      plain_first : (cs : List Chunk) → w.ds64 ≡ [] → w.children ≡ cs → junk_first cs ≡ body ∷ [] → junk_first (new_children w e) ≡ body ∷ []
-      plain_first [] a b j = absurd cc
-      plain_first (c ∷ cs) a b j = by (is_padding c) refl
-        where
-          cells : cells_of w ≡ Rattle.container_model.specs.Units.kept c ∷ map Rattle.wave_model.specs.Wave.cell_of cs
-          cells = ap (λ (ds : List Chunk). cells_behind ds w.children) a ∙ ap (cells_behind []) b
-
-          by : (t : Bool) → is_padding c ≡ t → junk_first (new_children w e) ≡ body ∷ []
-          by true p =
-              let same : c.body ∷ [] ≡ body ∷ [] = sym (cond-true (is_padding c) (c.body ∷ []) [] p) ∙ j in
-              junk_of c (new_children w e) body (first_laid (fill_of w) c (carried (steps e) (cells_of w)) (first_carried c (steps e) (all_pass e c p) (cells_of w) (map Rattle.wave_model.specs.Wave.cell_of cs, cells))) p (one_body c.body body same)
-          by false p = let none : junk_first (c ∷ cs) ≡ [] = cond-false (is_padding c) _ _ p in absurd cc
-
-      go : (t : Bool) → Sized t w.form (new_size w e) w.ds64 → first_junk n ≡ body ∷ []
-      go false s =
-          let old : junk_first w.children ≡ body ∷ [] = sym (ap (λ (ds : List Chunk). junk_first (ds ++ w.children)) s.0) ∙ h in
-          ap (λ (ds : List Chunk). junk_first (ds ++ new_children w e)) s.1 ∙ plain_first w.children s.0 refl old
-      go true s =
-          let no : is_padding s.0 ≡ false = ap (λ (i : List ℕ). own_size s.0.form && bytes_eq i (codes "JUNK")) s.2.id_is ∙ both (own_size s.0.form) in
-          let none : first_junk w ≡ [] = ap (λ (ds : List Chunk). junk_first (ds ++ w.children)) s.1 ∙ cond-false (is_padding s.0) _ _ no in
-          absurd cc
-        where
-          both : (t : Bool) → (t && false) ≡ false
-          both true = refl
-          both false = refl
+  pub new_supported : Fits (wave_of o) e → Supported (spell_wave (new_wave (wave_of o) e))
+  new_supported fits = supported_again (new_wave (wave_of o) e) (new_readable fits) sup.form_id new_ds64 new_children_fine fits.few_parts

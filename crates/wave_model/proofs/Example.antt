@@ -21,7 +21,7 @@ are_bytes [] h i = omega arith
 are_bytes (x ∷ b) h zero = ltb-true x 256 (and_parts (ltb x 256) (list_all (λ x. ltb x 256) b) h).0
 are_bytes (x ∷ b) h (suc i) = are_bytes b (and_parts (ltb x 256) (list_all (λ x. ltb x 256) b) h).1 i
 
-description_allowed : broken (kind_of short_sound) (fields short_sound) set_description Base ≡ None
+description_allowed : broken (kind_of short_sound) 0 (fields short_sound) set_description Base ≡ None
 unfolding chunks read
 description_allowed = refl
 
@@ -32,7 +32,7 @@ description_small = refl
 description_edited : Edited short_sound set_description (new_file short_sound set_description)
 description_edited = edited_law short_sound set_description (are_bytes short_sound refl) (why_supported short_sound supported_short) description_allowed description_small
 
-rf64_allowed : broken (kind_of rf64) (fields rf64) set_description Base ≡ None
+rf64_allowed : broken (kind_of rf64) 0 (fields rf64) set_description Base ≡ None
 unfolding chunks read
 rf64_allowed = refl
 

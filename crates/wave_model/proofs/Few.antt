@@ -1,7 +1,6 @@
 -- The patches of an edit are no more than the new chunks, for a chunk is copied.
-use Rattle.std.proofs.Common.{◌≡◌, ℕ, suc, ◌+◌, ◌≤◌, Bool, true, false, cond, eqb, List, [], ◌∷◌, ◌++◌, length, map, take, None, refl, sym, ap, ◌∙◌, arith, inl, inr}
+use Rattle.std.proofs.Common.{◌≡◌, ℕ, ◌+◌, ◌≤◌, Bool, true, false, cond, List, [], ◌∷◌, ◌++◌, length, take, None, refl, sym, ap, ◌∙◌, arith, inl, inr}
 use Rattle.std.specs.Prelude.{◌&&◌, ◌||◌, not, codes}
-use Rattle.std.specs.Int.{w32, w64, to_le_bytes}
 use Rattle.std.specs.Str.{bytes_eq}
 use Rattle.std.specs.List.{flat_map, filter_map, AllByRecursion}
 use Rattle.std.proofs.lemmas.Bool.{ltb-true}
@@ -9,91 +8,37 @@ use Rattle.std.proofs.lemmas.List.{length-append}
 use Rattle.part_tree.specs.declared.field.EditItem.{EditItem}
 use Rattle.part_tree.specs.Names.{whole_ids}
 use Rattle.field_model.specs.Update.{RawItem, raw_item, raw_items, effective}
-use Rattle.container_model.specs.Chunk.{Form, riff, wide, short, long, to_end, Chunk, spell, spell_all, PadStands, Pads}
-use Rattle.container_model.specs.Units.{Cell, kept, gap, edited, was, live, padded, lacks_pad, is_empty, Piece, copied, replaced, Slot, shut, begun, closed, units, kept_next, Fill, lead_pad, lay}
-use Rattle.container_model.proofs.Codec.{IsBytes, as_many}
+use Rattle.container_model.specs.Chunk.{Chunk, spell_all, PadStands, Pads}
+use Rattle.container_model.specs.Units.{Cell, kept, gap, edited, was, live, lacks_pad, is_empty, shut}
+use Rattle.container_model.proofs.Codec.{IsBytes}
 use Rattle.container_model.proofs.Reread.{CellPads}
 use Rattle.container_model.proofs.Items.{same_true}
 use Rattle.carrier_model.specs.Info.{own_size, one_of}
-use Rattle.carrier_model.specs.Room.{patch, unit_patches}
-use Rattle.carrier_model.proofs.Patches.{one_patch}
+use Rattle.carrier_model.specs.Room.{unit_patches}
+use Rattle.carrier_model.proofs.Few.{copies, copied_cells, pieces_few, units_copies}
+use Rattle.carrier_model.proofs.RiffForm.{size_few}
 use Rattle.wave_model.specs.Wave.{wave_of, inner, cells_of}
 use Rattle.wave_model.specs.Fields.{has_id, body_in, bodies, fields}
-use Rattle.wave_model.specs.Carry.{steps, carried}
+use Rattle.wave_model.specs.Carry.{steps}
+use Rattle.carrier_model.specs.Steps.{carried}
 use Rattle.wave_model.specs.New.{fill_of, children_at, pieces_of, new_children, new_size}
 use Rattle.wave_model.specs.Edited.{formats, sounds, parts_of, Supported}
 use Rattle.wave_model.specs.Large.{too_large, large_by}
-use Rattle.wave_model.specs.Room.{size_patch, patches_in, patches}
-use Rattle.wave_model.proofs.Steps.{NowCells, now_carried, now_both, pads_carried, live_carried}
+use Rattle.wave_model.specs.Room.{patches_in, patches}
+use Rattle.carrier_model.specs.RiffForm.{size_patch}
+use Rattle.carrier_model.proofs.Steps.{NowCells, now_carried, now_both, pads_carried, live_carried}
 use Rattle.wave_model.proofs.Acts.{IsMade, all_made, other_id}
 use Rattle.wave_model.proofs.Values.{format_bodies, sound_bodies}
 use Rattle.wave_model.proofs.Form.{old_pads}
-use Rattle.wave_model.proofs.Cells.{view_cells, pads_cells, now_cells}
+use Rattle.wave_model.proofs.Cells.{no_chunks, view_cells, pads_cells, now_cells}
 use Rattle.wave_model.proofs.New.{fits_from, ignores_body, made_padded_all}
 use Rattle.wave_model.proofs.Why.{parts_some}
 use Rattle.wave_model.proofs.Law.{same_children}
 
--- ---- patches and copied chunks
-
--- the copied chunks
-abbrev copies : List Piece → ℕ
-copies [] = 0
-copies (copied c ∷ ps) = suc (copies ps)
-copies (replaced lead slot now last ∷ ps) = copies ps
-
--- a unit with a patch has a chunk
-unit_few : (at : ℕ) (lead now more : List Chunk) → length (patch at ((lead_pad lead ++ spell_all now) ++ take 8 (spell_all more))) ≤ length (map padded lead ++ (now ++ more))
-unit_few at [] [] [] = omega arith
-unit_few at (c ∷ lead) now more = omega (arith, one_patch at ((lead_pad (c ∷ lead) ++ spell_all now) ++ take 8 (spell_all more)))
-unit_few at [] (c ∷ now) more = omega (arith, one_patch at ((lead_pad [] ++ spell_all (c ∷ now)) ++ take 8 (spell_all more)))
-unit_few at [] [] (c ∷ more) = omega (arith, one_patch at ((lead_pad [] ++ spell_all []) ++ take 8 (spell_all (c ∷ more))))
-
-pieces_few : (fill : Fill) (at : ℕ) (ps : List Piece) → length (unit_patches fill at ps) + copies ps ≤ length (lay fill ps)
-pieces_few fill at [] = omega arith
-pieces_few fill at (copied c ∷ ps) = omega (arith, pieces_few fill (at + length (spell c)) ps)
-pieces_few fill at (replaced lead slot now last ∷ ps) =
-    let u = lead_pad lead ++ spell_all now in
-    let f = fill last slot (length u) in
-    let here = at + length (spell_all lead) in
-    let next = at + length (spell_all lead ++ slot) in
-    omega (arith, pieces_few fill next ps, unit_few here lead now f, length-append (patch here (u ++ take 8 (spell_all f))) (unit_patches fill next ps), length-append (map padded lead ++ (now ++ f)) (lay fill ps))
-
--- ---- the cells that are copied
-
--- kept chunks that no unit brings
-abbrev copied_cells : List Cell → ℕ
-copied_cells [] = 0
-copied_cells (kept c ∷ xs) = cond (lacks_pad c && not (is_empty xs)) 0 1 + copied_cells xs
-copied_cells (gap c ∷ xs) = copied_cells xs
-copied_cells (edited old now ∷ xs) = copied_cells xs
-
-closed_copies : (last : Bool) (s : Slot) (ps : List Piece) → copies (closed last s ++ ps) ≡ copies ps
-closed_copies last shut ps = refl
-closed_copies last (begun lead slot now) ps = refl
-
-kept_copies : (t : Bool) (c : Chunk) (xs : List Cell) → ((s : Slot) → copied_cells xs ≤ copies (units s xs)) → cond t 0 1 + copied_cells xs ≤ copies (kept_next t c (λ s. units s xs))
-kept_copies true c xs again = omega (arith, again (begun (c ∷ []) [] []))
-kept_copies false c xs again = omega (arith, again shut)
-
-gap_copies : (t : Bool) (c : Chunk) (xs : List Cell) → ((s : Slot) → copied_cells xs ≤ copies (units s xs)) → copied_cells xs ≤ copies (kept_next t c (λ s. units s xs))
-gap_copies true c xs again = again (begun (c ∷ []) [] [])
-gap_copies false c xs again = omega (arith, again shut)
-
-units_copies : (s : Slot) (xs : List Cell) → copied_cells xs ≤ copies (units s xs)
-unfolding units
-units_copies s [] = omega arith
-units_copies s (kept c ∷ xs) =
-    let t = lacks_pad c && not (is_empty xs) in
-    omega (arith, closed_copies false s (kept_next t c (λ u. units u xs)), kept_copies t c xs (λ u. units_copies u xs))
-units_copies shut (gap c ∷ xs) = gap_copies (lacks_pad c && not (is_empty xs)) c xs (λ u. units_copies u xs)
-units_copies (begun lead slot now) (gap c ∷ xs) = units_copies (begun lead (slot ++ spell c) now) xs
-units_copies shut (edited old new ∷ xs) = units_copies (begun [] (spell_all old) new) xs
-units_copies (begun lead slot now) (edited old new ∷ xs) = units_copies (begun lead (slot ++ spell_all old) (now ++ new)) xs
-
 -- ---- one of `fmt ` and `data` is copied
 
 -- neither `fmt ` nor `data`
-abbrev Silent : Chunk → Type 0
+abbrev pub Silent : Chunk → Type 0
 Silent c = (has_id (codes "fmt ") c ≡ false) × (has_id (codes "data") c ≡ false)
 
 -- `fmt ` and `data`, counted
@@ -132,10 +77,6 @@ unheard (gap c ∷ xs) n h = absurd cc
 unheard (edited [] now ∷ xs) n h = silent_front now (flat_map live xs) h.0 ∙ unheard xs n h.1
 unheard (edited (c ∷ old) now ∷ xs) n h = absurd cc
 
-no_chunks : (cs : List Chunk) (left : List ℕ) → spell_all cs ++ left ≡ [] → cs ≡ []
-no_chunks [] left n = refl
-no_chunks (c ∷ cs) left n = absurd (omega (arith, as_many (c ∷ cs), length-append (spell_all (c ∷ cs)) left, ap length n))
-
 heard_copied : (xs : List Cell) (left : List ℕ) → CellPads xs left → NowCells Silent xs → heard (flat_map live xs) ≤ copied_cells xs + 1
 heard_copied [] left p h = omega arith
 heard_copied (kept c ∷ xs) left p h = go (lacks_pad c) (is_empty xs) refl p.0 (heard_copied xs left p.1 h)
@@ -149,7 +90,7 @@ heard_copied (gap c ∷ xs) left p h = heard_copied xs left p.1 h
 heard_copied (edited old now ∷ xs) left p h = omega (arith, silent_front now (flat_map live xs) h.0, heard_copied xs left p.1 h.1)
 
 -- what a step makes holds fields
-made_silent : (c : Chunk) → IsMade c → Silent c
+pub made_silent : (c : Chunk) → IsMade c → Silent c
 made_silent c m = (other (codes "fmt ") refl refl (has_id (codes "fmt ") c) refl, other (codes "data") refl refl (has_id (codes "data") c) refl)
   where
     no : (t : Bool) → ((t && false) || (t && false)) ≡ true → ⊥
@@ -167,33 +108,6 @@ made_silent c m = (other (codes "fmt ") refl refl (has_id (codes "fmt ") c) refl
     other w l b false i = i
 
 -- ---- all patches
-
-size_few : (form : Form) (k n : ℕ) → length (size_patch form k n) ≤ 1
-size_few wide k n = by (eqb k n)
-  where
-    by : (t : Bool) → length (cond t [] (patch 20 (to_le_bytes w64 n))) ≤ 1
-    by true = omega arith
-    by false = one_patch 20 (to_le_bytes w64 n)
-size_few riff k n = by (eqb k n)
-  where
-    by : (t : Bool) → length (cond t [] (patch 4 (to_le_bytes w32 n))) ≤ 1
-    by true = omega arith
-    by false = one_patch 4 (to_le_bytes w32 n)
-size_few short k n = by (eqb k n)
-  where
-    by : (t : Bool) → length (cond t [] (patch 4 (to_le_bytes w32 n))) ≤ 1
-    by true = omega arith
-    by false = one_patch 4 (to_le_bytes w32 n)
-size_few long k n = by (eqb k n)
-  where
-    by : (t : Bool) → length (cond t [] (patch 4 (to_le_bytes w32 n))) ≤ 1
-    by true = omega arith
-    by false = one_patch 4 (to_le_bytes w32 n)
-size_few to_end k n = by (eqb k n)
-  where
-    by : (t : Bool) → length (cond t [] (patch 4 (to_le_bytes w32 n))) ≤ 1
-    by true = omega arith
-    by false = one_patch 4 (to_le_bytes w32 n)
 
 all_parts : (cs : List Chunk) → length cs ≤ length (flat_map parts_of cs)
 all_parts [] = omega arith

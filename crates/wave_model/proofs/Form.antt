@@ -16,7 +16,8 @@ use Rattle.container_model.specs.Ds64.{le32, le64, rows}
 use Rattle.wave_model.specs.Wave.{is_big, is_wide, form_kind, form_size, form_body, behind_form, sizes_of, form_run, firsts, others, wave_of, inner, spell_wave}
 use Rattle.wave_model.specs.Edited.{Ds64Fine, Supported, formats}
 use Rattle.wave_model.proofs.Read.{most, OfRiff, IsRead, chunks_fine, read_heads, short_rest}
-use Rattle.wave_model.proofs.Again.{field_of, FormFine, IsForm, is_form, spelled}
+use Rattle.wave_model.proofs.Again.{FormFine, is_form, spelled}
+use Rattle.carrier_model.proofs.RiffForm.{field_of, IsForm}
 use Rattle.wave_model.proofs.Ds64.{IsDs64, HasDs64, first_id, first_size, first_rows, wide_size}
 
 -- ---- the first chunk and the others

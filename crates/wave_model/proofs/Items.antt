@@ -1,6 +1,6 @@
 -- The items of an edit that breaks no basic rule are such as their fields can have.
 use Rattle.std.proofs.Common.{◌≡◌, ℕ, ◌-◌, ◌^◌, ◌≤◌, Bool, true, false, cond, ltb, eqb, List, [], ◌∷◌, ◌++◌, length, replicate, Option, Some, None, refl, sym, ap, ◌∙◌, arith}
-use Rattle.std.specs.Prelude.{◌||◌, ◌&&◌, not, codes, option_map, unwrap_or}
+use Rattle.std.specs.Prelude.{◌||◌, ◌&&◌, nat_lt, not, codes, option_map, unwrap_or}
 use Rattle.std.specs.Str.{bytes_eq}
 use Rattle.std.specs.List.{filter_map, cons_option, AllByRecursion}
 use Rattle.std.proofs.lemmas.Bool.{ltb-false, and_parts, eqb-true}
@@ -11,12 +11,13 @@ use Rattle.part_tree.specs.declared.field.Change.{Change}
 use Rattle.part_tree.specs.declared.field.Change.TheVariants.{Set, Remove}
 use Rattle.part_tree.specs.declared.field.EditItem.{EditItem}
 use Rattle.part_tree.specs.declared.field.FieldName.{FieldName}
-use Rattle.part_tree.specs.declared.field.FieldName.TheVariants.{Bext, Info, Whole, User}
+use Rattle.part_tree.specs.declared.field.FieldName.TheVariants.{Bext, Info, Whole, User, Key, Stream}
 use Rattle.part_tree.specs.declared.field.RuleSet.TheVariants.{Base}
 use Rattle.part_tree.specs.declared.names.Kind.{Kind}
 use Rattle.part_tree.specs.Names.{bext_row}
 use Rattle.field_model.specs.Bext.{blank}
-use Rattle.field_model.specs.Broken.{is_movie, has_field, set_fails, broken}
+use Rattle.field_model.specs.Broken.{set_fails, broken}
+use Rattle.field_model.specs.KindFacts.{facts, has_field, is_movie}
 use Rattle.field_model.specs.Fields.{FieldMap}
 use Rattle.field_model.specs.Numbers.{is_hex, hex_bytes}
 use Rattle.field_model.specs.Raw.{raw_of, raw_whole}
@@ -25,6 +26,10 @@ use Rattle.field_model.specs.Update.{RawItem, effective, written, raw_change, ra
 use Rattle.field_model.proofs.Fits.{raw_fills, blank_fills}
 use Rattle.field_model.proofs.Kept.{Kept, base_kept}
 use Rattle.wave_model.proofs.Values.{ItemFine, ItemsFine}
+
+-- a kind whose files have neither user data nor streams
+abbrev pub HasNeither : Kind → Type 0
+HasNeither kind = (is_movie kind ≡ false) × ((facts kind).has_streams ≡ false)
 
 module _ (kind : Kind) (f : FieldMap) (e : List EditItem) where
   -- ---- the bytes of an item
@@ -95,21 +100,25 @@ module _ (kind : Kind) (f : FieldMap) (e : List EditItem) where
   OptionFine None = Unit {0}
   OptionFine (Some i) = ItemFine i.name i.value
 
-  set_fine : is_movie kind ≡ false → (name : FieldName) (text : List ℕ) → not (has_field kind name) ≡ false → too_long name text ≡ false → (o : Option (List ℕ)) → raw_of name text ≡ o → OptionFine (option_map (written name) o)
+  set_fine : HasNeither kind → (name : FieldName) (text : List ℕ) → not (has_field kind 0 name) ≡ false → too_long name text ≡ false → (o : Option (List ℕ)) → raw_of name text ≡ o → OptionFine (option_map (written name) o)
   set_fine m name text k l None h = tt
   set_fine m (Bext field) text k l (Some raw) h = (refl, raw_fills field text raw h, history field text raw h l)
   set_fine m (Info id) text k l (Some raw) h = refl
   set_fine m (Whole id) text k l (Some raw) h = (refl, whole_short id.0 text raw h (bytes_eq id.0 (codes "MD5 ")) refl l)
-  set_fine m (User id) text k l (Some raw) h = let no : not (is_movie kind) ≡ true = ap not m in absurd cc
+  set_fine m (User id) text k l (Some raw) h = let no : not (is_movie kind) ≡ true = ap not m.0 in absurd cc
+  set_fine m (Key name) text k l (Some raw) h = let no : not (is_movie kind) ≡ true = ap not m.0 in absurd cc
+  set_fine m (Stream n) text k l (Some raw) h = let no : not ((facts kind).has_streams && nat_lt n 0) ≡ true = ap (λ (t : Bool). not (t && nat_lt n 0)) m.1 in absurd cc
 
-  change_fine : is_movie kind ≡ false → (name : FieldName) (change : Change) → not (has_field kind name) ≡ false → set_fails too_long name change ≡ false → OptionFine (raw_change name change)
+  change_fine : HasNeither kind → (name : FieldName) (change : Change) → not (has_field kind 0 name) ≡ false → set_fails too_long name change ≡ false → OptionFine (raw_change name change)
   change_fine m name (Set text) k l = set_fine m name text k l (raw_of name text) refl
   change_fine m (Bext field) Remove k l = (refl, blank_fills field, blank_short field)
   change_fine m (Info id) Remove k l = tt
   change_fine m (Whole id) Remove k l = tt
-  change_fine m (User id) Remove k l = let no : not (is_movie kind) ≡ true = ap not m in absurd cc
+  change_fine m (User id) Remove k l = let no : not (is_movie kind) ≡ true = ap not m.0 in absurd cc
+  change_fine m (Key name) Remove k l = let no : not (is_movie kind) ≡ true = ap not m.0 in absurd cc
+  change_fine m (Stream n) Remove k l = let no : not ((facts kind).has_streams && nat_lt n 0) ≡ true = ap (λ (t : Bool). not (t && nat_lt n 0)) m.1 in absurd cc
 
-  all_fine : is_movie kind ≡ false → (xs : List EditItem) → AllByRecursion (Kept kind) xs → ItemsFine (filter_map raw_item xs)
+  all_fine : HasNeither kind → (xs : List EditItem) → AllByRecursion (Kept kind 0) xs → ItemsFine (filter_map raw_item xs)
   all_fine m [] h = tt
   all_fine m (x ∷ xs) h = join (raw_item x) (change_fine m x.name x.change h.0.field h.0.short) (all_fine m xs h.1)
     where
@@ -118,5 +127,5 @@ module _ (kind : Kind) (f : FieldMap) (e : List EditItem) where
       join (Some i) h g = (h, g)
 
   -- The raw items of an edit that breaks no basic rule are fine.
-  pub items_fine : is_movie kind ≡ false → broken kind f e Base ≡ None → ItemsFine (raw_items f e)
-  items_fine m h = all_fine m (effective f e) (base_kept kind f e h)
+  pub items_fine : HasNeither kind → broken kind 0 f e Base ≡ None → ItemsFine (raw_items f e)
+  items_fine m h = all_fine m (effective f e) (base_kept kind 0 f e h)

@@ -1,6 +1,7 @@
 -- The law of the edited file.
 use Rattle.std.proofs.Common.{◌≡◌, ℕ, suc, Bool, true, false, cond, eqb, List, [], ◌∷◌, ◌++◌, length, take, drop, None, refl, sym, ap, subst, ◌∙◌, arith, inl, inr, ◌≤◌, ◌-◌, ◌^◌}
-use Rattle.std.specs.Prelude.{◌⊎◌}
+use Rattle.std.specs.Prelude.{◌⊎◌, codes}
+use Rattle.std.specs.Str.{bytes_eq}
 use Rattle.std.specs.Int.{w64, to_le_bytes, from_le_bytes}
 use Rattle.std.specs.List.{flat_map, filter_map}
 use Rattle.std.proofs.lemmas.Bool.{cond-true, eq-eqb}
@@ -8,10 +9,10 @@ use Rattle.std.proofs.lemmas.Nat.{le_bytes_8}
 use Rattle.std.proofs.lemmas.List.{take-append-drop, take-append-le, length-take}
 use Rattle.part_tree.specs.declared.field.EditItem.{EditItem}
 use Rattle.part_tree.specs.declared.field.FieldName.{FieldName}
-use Rattle.part_tree.specs.declared.field.FieldName.TheVariants.{Bext, Info, Whole, User}
+use Rattle.part_tree.specs.declared.field.FieldName.TheVariants.{Bext, Info, Whole, User, Key, Stream}
 use Rattle.part_tree.specs.declared.field.RuleSet.TheVariants.{Base}
-use Rattle.part_tree.specs.declared.names.Kind.TheVariants.{Rf64, Wave as WaveKind}
-use Rattle.field_model.specs.Broken.{broken, is_movie}
+use Rattle.part_tree.specs.declared.names.Kind.TheVariants.{Rf64, Bw64, Wave as WaveKind}
+use Rattle.field_model.specs.Broken.{broken}
 use Rattle.field_model.specs.Fields.{FieldMap}
 use Rattle.field_model.specs.Update.{RawItem, effective, raw_item, raw_items, updated}
 use Rattle.container_model.specs.Chunk.{wide, Chunk, Pads}
@@ -21,20 +22,21 @@ use Rattle.container_model.proofs.Fronts.{IsBytes-take}
 use Rattle.carrier_model.specs.Cells.{Change, leave, changed_cell, change_at, counted, settle, settle_cells, never, Act, acted_cells}
 use Rattle.carrier_model.specs.Lists.{edit_nth, all_items, home, has_carrier, lists_act, lists_act_by, Node, list, sign, other, has_list, place_nth, node_items, place_by}
 use Rattle.carrier_model.specs.Info.{info, info_items}
-use Rattle.carrier_model.specs.Large.{first_above}
 use Rattle.container_model.specs.Ds64.{le64}
 use Rattle.wave_model.specs.Wave.{is_big, is_wide, form_kind, form_size, kind_of, Wave, wave_of, inner, spell_wave, cells_of}
 use Rattle.wave_model.specs.Fields.{fields, fields_of, nodes}
-use Rattle.wave_model.specs.Carry.{steps, carried, placed}
-use Rattle.wave_model.specs.New.{fill_of, new_children, new_size, new_pad, with_riff_size, sized_ds64, new_wave, new_file, new_size_of}
+use Rattle.wave_model.specs.Carry.{steps, placed}
+use Rattle.carrier_model.specs.Steps.{carried}
+use Rattle.wave_model.specs.New.{fill_of, new_children, new_size, with_riff_size, sized_ds64, new_wave, new_file, new_size_of}
+use Rattle.carrier_model.specs.RiffForm.{new_pad}
 use Rattle.wave_model.specs.Edited.{kept_in, kept_of, pieces_in, Supported, first_junk, Edited}
-use Rattle.wave_model.specs.Large.{FormSmall, all_sizes, large_by, too_large}
+use Rattle.wave_model.specs.Large.{FormSmall, large_by, too_large}
 use Rattle.wave_model.proofs.Ds64.{IsDs64, HasDs64, at_twenty, behind_first}
 use Rattle.wave_model.proofs.Form.{inner_len, behind_body, spelled_is, old_pads, has_ds64}
 use Rattle.wave_model.proofs.Cells.{was_cells, pads_cells, unedited, still_all}
-use Rattle.wave_model.proofs.New.{fits_from}
+use Rattle.wave_model.proofs.New.{Fits, fits_from}
 use Rattle.wave_model.proofs.Edited.{sized_nodes, new_again, new_fields, new_nodes, new_pieces, new_supported, new_junk}
-use Rattle.wave_model.proofs.Items.{items_fine}
+use Rattle.wave_model.proofs.Items.{HasNeither, items_fine}
 
 -- ---- an edit without items changes nothing
 
@@ -75,18 +77,20 @@ idle_place h n (list ts rest ∷ k) = ap (λ (x : List Node). list ts rest ∷ x
 idle_place h n (sign id ∷ k) = ap (λ (x : List Node). sign id ∷ x) (idle_place h n k)
 idle_place h n (other form id body ∷ k) = ap (λ (x : List Node). other form id body ∷ x) (idle_place h n k)
 
-idle_placed : (k : List Node) → placed [] k ≡ k
+pub idle_placed : (k : List Node) → placed [] k ≡ k
 idle_placed k = go (has_list k)
   where
     go : (t : Bool) → place_by {V = List ℕ} never [] k t ≡ k
     go true = idle_place (home (node_items k)) 0 k
     go false = refl
 
-idle_updated : (f : FieldMap) (name : FieldName) → f name ≡ updated [] f name
+pub idle_updated : (f : FieldMap) (name : FieldName) → f name ≡ updated [] f name
 idle_updated f (Bext field) = refl
 idle_updated f (Info id) = refl
 idle_updated f (Whole id) = refl
 idle_updated f (User id) = refl
+idle_updated f (Key name) = refl
+idle_updated f (Stream n) = refl
 
 module _ (o : List ℕ) (bytes : IsBytes o) (sup : Supported o) where
   pub same_children : new_children (wave_of o) [] ≡ (wave_of o).children
@@ -139,7 +143,7 @@ module _ (o : List ℕ) (bytes : IsBytes o) (sup : Supported o) where
   unfolding new_file
   new_idle e none = ap (λ (is : List EditItem). spell_wave (new_wave (wave_of o) (filter_map raw_item is))) none ∙ new_nothing
 
-  idle_law : (e : List EditItem) → effective (fields o) e ≡ [] → Edited o e (new_file o e)
+  pub idle_law : (e : List EditItem) → effective (fields o) e ≡ [] → Edited o e (new_file o e)
   idle_law e none =
       let same : raw_items (fields o) e ≡ [] = ap (filter_map raw_item) none in
       subst (λ (n : List ℕ). Edited o e n) (sym (new_idle e none)) (record {
@@ -151,37 +155,37 @@ module _ (o : List ℕ) (bytes : IsBytes o) (sup : Supported o) where
         no_effect = λ x. refl;
       })
 
-  kind_is : is_movie (kind_of o) ≡ false
-  kind_is = go (is_big (take 4 o))
+  pub kind_is : HasNeither (kind_of o)
+  kind_is = go (is_big (take 4 o)) (bytes_eq (codes "BW64") (take 4 o))
     where
-      go : (t : Bool) → is_movie (cond t Rf64 WaveKind) ≡ false
-      go true = refl
-      go false = refl
+      go : (t u : Bool) → HasNeither (cond t (cond u Bw64 Rf64) WaveKind)
+      go true true = (refl, refl)
+      go true false = (refl, refl)
+      go false u = (refl, refl)
 
-  busy_law : (e : List EditItem) → broken (kind_of o) (fields o) e Base ≡ None → first_above (all_sizes (wave_of o) (raw_items (fields o) e)) ≡ None → Edited o e (new_file o e)
+  pub busy_law : (e : List EditItem) → broken (kind_of o) 0 (fields o) e Base ≡ None → Fits (wave_of o) (raw_items (fields o) e) → Edited o e (new_file o e)
   unfolding new_file
-  busy_law e b l =
+  busy_law e b fits =
       let r = raw_items (fields o) e in
       let f = items_fine (kind_of o) (fields o) e kind_is b in
-      let fits = fits_from (wave_of o) r l in
-      let again = new_again o bytes sup r f fits in
+      let again = new_again o bytes sup r f fits.lists fits in
       let w = wave_of o in
       record {
-        supported = new_supported o bytes sup r f fits;
-        reads_back = λ name k. ap (λ (v : Wave). fields_of v.children name) again ∙ new_fields o bytes sup r f fits name k;
-        kept_in_order = ap kept_in again ∙ ap (λ (ds : List Node). record (kept_of o) { ds64 = ds; nodes = nodes (new_children w r) }) (sized_nodes w.form (new_size w r) w.ds64) ∙ ap (λ (k : List Node). record (kept_of o) { nodes = k }) (new_nodes o bytes sup r f fits);
-        same_pieces = ap (λ (v : Wave). pieces_in v.children) again ∙ new_pieces o bytes sup r f fits;
-        same_junk = λ body h. ap first_junk again ∙ new_junk o bytes sup r f fits body h;
+        supported = new_supported o bytes sup r f fits.lists fits;
+        reads_back = λ name k. ap (λ (v : Wave). fields_of v.children name) again ∙ new_fields o bytes sup r f fits.lists name k;
+        kept_in_order = ap kept_in again ∙ ap (λ (ds : List Node). record (kept_of o) { ds64 = ds; nodes = nodes (new_children w r) }) (sized_nodes w.form (new_size w r) w.ds64) ∙ ap (λ (k : List Node). record (kept_of o) { nodes = k }) (new_nodes o bytes sup r f fits.lists);
+        same_pieces = ap (λ (v : Wave). pieces_in v.children) again ∙ new_pieces o bytes sup r f fits.lists;
+        same_junk = λ body h. ap first_junk again ∙ new_junk o bytes sup r body h;
         no_effect = λ none. new_idle e none;
       }
 
 -- The law: for every edit that breaks no basic rule and is not too large, the new file is the old one edited.
-pub edited_law : (o : List ℕ) (e : List EditItem) → IsBytes o → Supported o → broken (kind_of o) (fields o) e Base ≡ None → too_large o e ≡ None → Edited o e (new_file o e)
+pub edited_law : (o : List ℕ) (e : List EditItem) → IsBytes o → Supported o → broken (kind_of o) 0 (fields o) e Base ≡ None → too_large o e ≡ None → Edited o e (new_file o e)
 edited_law o e bytes sup b l = go (effective (fields o) e) refl l
   where
     go : (is : List EditItem) → effective (fields o) e ≡ is → large_by is (wave_of o) (raw_items (fields o) e) ≡ None → Edited o e (new_file o e)
     go [] none l = idle_law o bytes sup e none
-    go (i ∷ is) some l = busy_law o bytes sup e b l
+    go (i ∷ is) some l = busy_law o bytes sup e b (fits_from (wave_of o) (raw_items (fields o) e) l)
 
 -- What passes no limit is no longer than a file can be.
 pub small_file : (o : List ℕ) (e : List EditItem) → too_large o e ≡ None → (effective (fields o) e ≡ []) ⊎ ((length (new_file o e) ≤ 2 ^ 63 - 1) × FormSmall (wave_of o).form (wave_of o).id (new_size_of o e))

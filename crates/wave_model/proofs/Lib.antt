@@ -1,6 +1,5 @@
 pub mod Rows
 pub mod Read
-pub mod Steps
 pub mod Acts
 pub mod Nodes
 pub mod Ready
@@ -22,3 +21,11 @@ pub mod Example
 pub mod Names
 pub mod Few
 pub mod Told
+pub mod Narrow
+pub mod Seen
+pub mod Widened
+pub mod WideLaw
+pub mod Kind
+pub mod Twin
+mod WideRows
+pub mod WideCuts

@@ -1,56 +1,102 @@
 -- What a reader tells of a supported file lies in its bytes.
 use Rattle.std.proofs.Common.{◌≡◌, ℕ, ◌+◌, Bool, true, false, cond, List, [], ◌∷◌, ◌++◌, length, take, drop, refl, sym, ap, ◌∙◌, append_assoc, arith, inl, inr}
-use Rattle.std.specs.Prelude.{codes}
+use Rattle.std.specs.Prelude.{◌&&◌, codes}
 use Rattle.std.specs.Int.{w32, to_le_bytes}
 use Rattle.std.specs.List.{flat_map, AllByRecursion}
 use Rattle.std.proofs.lemmas.List.{length-append, take_at, drop_at}
+use Rattle.part_tree.specs.Names.{whole_ids}
+use Rattle.part_tree.specs.Parts.{rest_parts, count_role, count_parts}
+use Rattle.part_tree.specs.declared.part.Part.{Part}
 use Rattle.part_tree.specs.declared.part.Role.{Role}
-use Rattle.container_model.specs.Chunk.{Form, Chunk, header_bytes, spell, spell_all}
+use Rattle.part_tree.specs.declared.part.Role.TheVariants.{Opaque, Padding, Bext, Info, Whole, Essence}
+use Rattle.container_model.specs.Chunk.{Form, Chunk, Run, header_bytes, spell, spell_all}
 use Rattle.container_model.proofs.Codec.{IsBytes}
-use Rattle.carrier_model.specs.Info.{list_run}
+use Rattle.carrier_model.specs.Info.{own_size, is_padding, one_of, list_run}
 use Rattle.wave_model.specs.Wave.{Wave, wave_of, inner, spell_wave}
-use Rattle.wave_model.specs.Fields.{has_id, is_info}
+use Rattle.wave_model.specs.Fields.{has_id, is_bext, is_info}
 use Rattle.wave_model.specs.New.{children_at}
 use Rattle.wave_model.specs.Edited.{parts_of, parts, sounds, Supported}
-use Rattle.wave_model.specs.Map.{body_span, role_of, first_role, part, item_parts, chunk_parts, later_parts, parts_behind, ds64_parts, parts_of_file, sound_from, sound}
+use Rattle.wave_model.specs.Map.{body_span, role_of, first_role, part, item_parts, list_parts, chunk_parts, later_parts, parts_behind, ds64_parts, rests_in, parts_of_file, sound_from, sound}
 use Rattle.wave_model.proofs.Read.{most, OfRiff, IsRead}
-use Rattle.wave_model.proofs.Again.{field_of, spelled, field_len}
+use Rattle.wave_model.proofs.Again.{spelled}
+use Rattle.carrier_model.proofs.RiffForm.{field_of, field_len}
 use Rattle.wave_model.proofs.Form.{old_form, spelled_is, old_fine, has_ds64}
 use Rattle.wave_model.proofs.Edited.{kind_len}
 use Rattle.wave_model.proofs.Ds64.{HasDs64}
 
 -- ---- as many parts as are counted
 
-items_len : (at : ℕ) (cs : List Chunk) → length (item_parts at cs) ≡ length cs
-items_len at [] = refl
-items_len at (c ∷ cs) = ap Rattle.std.specs.Prelude.suc (items_len (at + length (spell c)) cs)
+count_append : (a b : List Part) → count_parts (a ++ b) ≡ count_parts a + count_parts b
+count_append [] b = omega arith
+count_append (p ∷ a) b = omega (arith, count_append a b)
 
-chunk_len : (role : Role) (at : ℕ) (c : Chunk) → length (chunk_parts role at c) ≡ length (parts_of c)
-chunk_len role at c = go (is_info c)
+no_rest : (at : ℕ) (b : List ℕ) → count_parts (rest_parts at b) ≡ 0
+no_rest at [] = refl
+no_rest at (x ∷ b) = refl
+
+items_count : (at : ℕ) (cs : List Chunk) → count_parts (item_parts at cs) ≡ length cs
+items_count at [] = refl
+items_count at (c ∷ cs) = omega (arith, items_count (at + length (spell c)) cs)
+
+-- a chunk of the form counts
+role_counts : (c : Chunk) → count_role (role_of c) ≡ 1
+role_counts c = go (is_padding c) (is_bext c) (is_info c) (own_size c.form && one_of whole_ids c.id) (has_id (codes "data") c)
   where
-    go : (t : Bool) → length (part role at c ∷ cond t (item_parts (at + 12) (list_run c).chunks) []) ≡ length (cond t (c ∷ (list_run c).chunks) (c ∷ []))
-    go true = ap Rattle.std.specs.Prelude.suc (items_len (at + 12) (list_run c).chunks)
-    go false = refl
+    go : (t u v x y : Bool) → count_role (cond t Padding (cond u Bext (cond v Info (cond x Whole (cond y Essence Opaque))))) ≡ 1
+    go true u v x y = refl
+    go false true v x y = refl
+    go false false true x y = refl
+    go false false false true y = refl
+    go false false false false true = refl
+    go false false false false false = refl
 
-later_len : (at : ℕ) (cs : List Chunk) → length (later_parts at cs) ≡ length (flat_map parts_of cs)
-later_len at [] = refl
-later_len at (c ∷ cs) =
-    omega (arith, chunk_len (role_of c) at c, later_len (at + length (spell c)) cs, length-append (chunk_parts (role_of c) at c) (later_parts (at + length (spell c)) cs), length-append (parts_of c) (flat_map parts_of cs))
+first_counts : (c : Chunk) → count_role (first_role c) ≡ 1
+first_counts c = go (is_padding c)
+  where
+    go : (t : Bool) → count_role (cond t Opaque (role_of c)) ≡ 1
+    go true = refl
+    go false = role_counts c
 
-behind_len : (ds : List Chunk) (at : ℕ) (cs : List Chunk) → length (parts_behind ds at cs) ≡ length (flat_map parts_of cs)
-behind_len [] at [] = refl
-behind_len [] at (c ∷ cs) =
-    omega (arith, chunk_len (first_role c) at c, later_len (at + length (spell c)) cs, length-append (chunk_parts (first_role c) at c) (later_parts (at + length (spell c)) cs), length-append (parts_of c) (flat_map parts_of cs))
-behind_len (d ∷ ds) at cs = later_len at cs
+chunk_count : (role : Role) (at : ℕ) (c : Chunk) → count_role role ≡ 1 → count_parts (chunk_parts role at c) ≡ length (parts_of c)
+chunk_count role at c one = go (is_info c)
+  where
+    r : Run
+    r = list_run c
 
-pub parts_counted : (o : List ℕ) → IsBytes o → Supported o → length (parts_of_file o) ≡ parts (wave_of o)
+    go : (t : Bool) → count_parts (part role at c ∷ cond t (list_parts (at + 12) r) []) ≡ length (cond t (c ∷ r.chunks) (c ∷ []))
+    go true = omega (arith, one, items_count (at + 12) r.chunks, no_rest (at + 12 + length (spell_all r.chunks)) r.left, count_append (item_parts (at + 12) r.chunks) (rest_parts (at + 12 + length (spell_all r.chunks)) r.left))
+    go false = omega (arith, one)
+
+later_count : (at : ℕ) (cs : List Chunk) → count_parts (later_parts at cs) ≡ length (flat_map parts_of cs)
+later_count at [] = refl
+later_count at (c ∷ cs) =
+    omega (arith, chunk_count (role_of c) at c (role_counts c), later_count (at + length (spell c)) cs, count_append (chunk_parts (role_of c) at c) (later_parts (at + length (spell c)) cs), length-append (parts_of c) (flat_map parts_of cs))
+
+behind_count : (ds : List Chunk) (at : ℕ) (cs : List Chunk) → count_parts (parts_behind ds at cs) ≡ length (flat_map parts_of cs)
+behind_count [] at [] = refl
+behind_count [] at (c ∷ cs) =
+    omega (arith, chunk_count (first_role c) at c (first_counts c), later_count (at + length (spell c)) cs, count_append (chunk_parts (first_role c) at c) (later_parts (at + length (spell c)) cs), length-append (parts_of c) (flat_map parts_of cs))
+behind_count (d ∷ ds) at cs = later_count at cs
+
+pub parts_counted : (o : List ℕ) → IsBytes o → Supported o → count_parts (parts_of_file o) ≡ parts (wave_of o)
 parts_counted o bytes sup =
     let w = wave_of o in
-    omega (arith, behind_len w.ds64 (children_at w) w.children, one (Rattle.wave_model.specs.Wave.is_big (take 4 o)) (has_ds64 o bytes sup), length-append (ds64_parts w.ds64) (parts_behind w.ds64 (children_at w) w.children))
+    let at = children_at w + length (spell_all w.children) in
+    let behind = 8 + length (inner w) + length w.pad in
+    omega (
+      arith,
+      behind_count w.ds64 (children_at w) w.children,
+      one (Rattle.wave_model.specs.Wave.is_big (take 4 o)) (has_ds64 o bytes sup),
+      count_append (ds64_parts w.ds64) (parts_behind w.ds64 (children_at w) w.children ++ rests_in w),
+      count_append (parts_behind w.ds64 (children_at w) w.children) (rests_in w),
+      count_append (rest_parts at w.left) (rest_parts behind w.tail),
+      no_rest at w.left,
+      no_rest behind w.tail,
+    )
   where
-    one : (t : Bool) → HasDs64 t (wave_of o).ds64 → length (ds64_parts (wave_of o).ds64) ≡ length (wave_of o).ds64
-    one false h = ap (λ (ds : List Chunk). length (ds64_parts ds)) h ∙ sym (ap length h)
-    one true h = ap (λ (ds : List Chunk). length (ds64_parts ds)) h.1 ∙ sym (ap length h.1)
+    one : (t : Bool) → HasDs64 t (wave_of o).ds64 → count_parts (ds64_parts (wave_of o).ds64) ≡ length (wave_of o).ds64
+    one false h = ap (λ (ds : List Chunk). count_parts (ds64_parts ds)) h ∙ sym (ap length h)
+    one true h = ap (λ (ds : List Chunk). count_parts (ds64_parts ds)) h.1 ∙ sym (ap length h.1)
 
 -- ---- the sound lies where it is told
 

@@ -1,14 +1,16 @@
 -- Names that are no fields have no values, before and after an edit that names fields alone.
-use Rattle.std.proofs.Common.{◌≡◌, ℕ, Bool, true, false, cond, List, [], ◌∷◌, ◌++◌, map, Option, Some, None, refl, sym, ap, ◌∙◌}
-use Rattle.std.specs.Prelude.{◌&&◌, filter, option_map}
+use Rattle.std.proofs.Common.{◌≡◌, ℕ, ◌^◌, Bool, true, false, cond, List, [], ◌∷◌, ◌++◌, map, Option, Some, None, refl, sym, ap, ◌∙◌}
+use Rattle.std.specs.Prelude.{◌&&◌, ◌==◌, nat_lt, filter, option_map}
 use Rattle.std.specs.Str.{bytes_eq}
 use Rattle.std.specs.List.{filter_map, cons_option, list_any, AllByRecursion}
 use Rattle.part_tree.specs.declared.field.Change.{Change}
 use Rattle.part_tree.specs.declared.field.Change.TheVariants.{Set, Remove}
 use Rattle.part_tree.specs.declared.field.EditItem.{EditItem}
 use Rattle.part_tree.specs.declared.field.FieldName.{FieldName}
-use Rattle.part_tree.specs.declared.field.FieldName.TheVariants.{Bext, Info, Whole, User}
+use Rattle.part_tree.specs.declared.field.FieldName.TheVariants.{Bext, Info, Whole, User, Key, Stream}
 use Rattle.part_tree.specs.declared.field.RuleSet.TheVariants.{Base}
+use Rattle.std.proofs.lemmas.Bool.{eqb-true}
+use Rattle.part_tree.specs.Keys.{is_key_name}
 use Rattle.part_tree.specs.Names.{is_field_name, is_user_type, same_name, info_ids, whole_ids, IsFieldName}
 use Rattle.field_model.specs.Broken.{broken}
 use Rattle.field_model.specs.Fields.{FieldMap, plain}
@@ -54,11 +56,11 @@ no_whole w n (c ∷ cs) = rw (none (own_size c.form)) (no_whole w n cs)
     none true = ap (λ (t : Bool). t && has_id w c) n
     none false = refl
 
-no_values : (cs : List Chunk) (name : FieldName) → is_field_name name ≡ false → fields_of cs name ≡ []
+pub no_values : (cs : List Chunk) (name : FieldName) → is_field_name name ≡ false → fields_of cs name ≡ []
 no_values cs (Bext field) n = absurd cc
 no_values cs (Info id) n = ap (map plain) (no_info id.0 n cs)
 no_values cs (Whole id) n = ap (map plain) (no_whole id.0 n cs)
-no_values cs (User id) n = refl
+no_values cs name n = refl
 
 -- ---- an edit of fields
 
@@ -75,12 +77,14 @@ change_named (Bext field) Remove f e h = (f, h)
 change_named (Info id) Remove f e h = (f, h)
 change_named (Whole id) Remove f e h = (f, h)
 change_named (User id) Remove f e h = (f, h)
+change_named (Key name) Remove f e h = (f, h)
+change_named (Stream n) Remove f e h = (f, h)
 
-raws_named : (es : List EditItem) → AllByRecursion (λ i. IsFieldName i.name) es → OfFields (filter_map raw_item es)
+pub raws_named : (es : List EditItem) → AllByRecursion (λ i. IsFieldName i.name) es → OfFields (filter_map raw_item es)
 raws_named [] h = tt
 raws_named (i ∷ es) h = change_named i.name i.change h.0 (filter_map raw_item es) (raws_named es h.1)
 
-kept_named : (p : EditItem → Bool) (es : List EditItem) → AllByRecursion (λ i. IsFieldName i.name) es → AllByRecursion (λ i. IsFieldName i.name) (filter p es)
+pub kept_named : (p : EditItem → Bool) (es : List EditItem) → AllByRecursion (λ i. IsFieldName i.name) es → AllByRecursion (λ i. IsFieldName i.name) (filter p es)
 kept_named p [] h = tt
 kept_named p (i ∷ es) h = go (p i) (kept_named p es h.1)
   where
@@ -90,46 +94,52 @@ kept_named p (i ∷ es) h = go (p i) (kept_named p es h.1)
 
 differ : (a b : FieldName) → is_field_name a ≡ true → is_field_name b ≡ false → same_name a b ≡ false
 differ (Bext x) (Bext y) e n = absurd cc
-differ (Bext x) (Info b) e n = refl
-differ (Bext x) (Whole b) e n = refl
-differ (Bext x) (User b) e n = refl
-differ (Info a) (Bext y) e n = refl
+differ (Bext x) name e n = refl
 differ (Info a) (Info b) e n = go (bytes_eq a.0 b.0) refl
   where
     go : (t : Bool) → bytes_eq a.0 b.0 ≡ t → t ≡ false
     go true s = let yes : list_any (bytes_eq b.0) info_ids ≡ true = sym (ap (λ (x : List ℕ). list_any (bytes_eq x) info_ids) (same_true a.0 b.0 s)) ∙ e in absurd cc
     go false s = refl
-differ (Info a) (Whole b) e n = refl
-differ (Info a) (User b) e n = refl
-differ (Whole a) (Bext y) e n = refl
-differ (Whole a) (Info b) e n = refl
+differ (Info a) name e n = refl
 differ (Whole a) (Whole b) e n = go (bytes_eq a.0 b.0) refl
   where
     go : (t : Bool) → bytes_eq a.0 b.0 ≡ t → t ≡ false
     go true s = let yes : list_any (bytes_eq b.0) whole_ids ≡ true = sym (ap (λ (x : List ℕ). list_any (bytes_eq x) whole_ids) (same_true a.0 b.0 s)) ∙ e in absurd cc
     go false s = refl
-differ (Whole a) (User b) e n = refl
-differ (User a) (Bext y) e n = refl
-differ (User a) (Info b) e n = refl
-differ (User a) (Whole b) e n = refl
+differ (Whole a) name e n = refl
 differ (User a) (User b) e n = go (bytes_eq a.0 b.0) refl
   where
     go : (t : Bool) → bytes_eq a.0 b.0 ≡ t → t ≡ false
     go true s = let yes : is_user_type b.0 ≡ true = sym (ap is_user_type (same_true a.0 b.0 s)) ∙ e in absurd cc
     go false s = refl
+differ (User a) name e n = refl
+differ (Key a) (Key b) e n = go (bytes_eq a b) refl
+  where
+    go : (t : Bool) → bytes_eq a b ≡ t → t ≡ false
+    go true s = let yes : is_key_name b ≡ true = sym (ap is_key_name (same_true a b s)) ∙ e in absurd cc
+    go false s = refl
+differ (Key a) name e n = refl
+differ (Stream a) (Stream b) e n = go (a == b) refl
+  where
+    go : (t : Bool) → (a == b) ≡ t → t ≡ false
+    go true s = let yes : nat_lt b (2 ^ 32) ≡ true = sym (ap (λ (x : ℕ). nat_lt x (2 ^ 32)) (eqb-true a b s)) ∙ e in absurd cc
+    go false s = refl
+differ (Stream a) name e n = refl
 
 still_none : (e : List RawItem) → OfFields e → (name : FieldName) → is_field_name name ≡ false → (vs : List Rattle.part_tree.specs.declared.field.Value.Value) → updated_values e name vs ≡ vs
 still_none [] h name n vs = refl
 still_none (i ∷ e) h name n vs = ap (λ (t : Bool). updated_values e name (cond t (update.listed i.value) vs)) (differ i.name name h.0 n) ∙ still_none e h.1 name n vs
 
-no_update : (f : FieldMap) (e : List RawItem) → OfFields e → (name : FieldName) → is_field_name name ≡ false → f name ≡ [] → updated e f name ≡ []
+pub no_update : (f : FieldMap) (e : List RawItem) → OfFields e → (name : FieldName) → is_field_name name ≡ false → f name ≡ [] → updated e f name ≡ []
 no_update f e h (Bext field) n z = absurd cc
 no_update f e h (Info id) n z = still_none e h (Info id) n (f (Info id)) ∙ z
 no_update f e h (Whole id) n z = still_none e h (Whole id) n (f (Whole id)) ∙ z
 no_update f e h (User id) n z = still_none e h (User id) n (f (User id)) ∙ z
+no_update f e h (Key name) n z = still_none e h (Key name) n (f (Key name)) ∙ z
+no_update f e h (Stream m) n z = still_none e h (Stream m) n (f (Stream m)) ∙ z
 
 -- The fields of the new file are the old ones updated, as a whole map.
-pub whole_map : (o : List ℕ) (e : List EditItem) → IsBytes o → Supported o → broken (kind_of o) (fields o) e Base ≡ None → too_large o e ≡ None → AllByRecursion (λ i. IsFieldName i.name) e → (name : FieldName) → fields (new_file o e) name ≡ update (fields o) e name
+pub whole_map : (o : List ℕ) (e : List EditItem) → IsBytes o → Supported o → broken (kind_of o) 0 (fields o) e Base ≡ None → too_large o e ≡ None → AllByRecursion (λ i. IsFieldName i.name) e → (name : FieldName) → fields (new_file o e) name ≡ update (fields o) e name
 whole_map o e bytes sup b l h name = go (is_field_name name) refl
   where
     go : (t : Bool) → is_field_name name ≡ t → fields (new_file o e) name ≡ update (fields o) e name

@@ -6,7 +6,7 @@ use Rattle.std.specs.List.{flat_map, AllByRecursion}
 use Rattle.std.proofs.lemmas.Bool.{and_parts, cond-false, ltb-true, ltb-false, eqb-true, eqb-false}
 use Rattle.std.proofs.lemmas.List.{length-append, length-drop}
 use Rattle.part_tree.specs.declared.field.FieldName.{FieldName}
-use Rattle.part_tree.specs.declared.field.FieldName.TheVariants.{Bext, Info, Whole, User}
+use Rattle.part_tree.specs.declared.field.FieldName.TheVariants.{Bext, Info, Whole}
 use Rattle.part_tree.specs.declared.field.Value.{Value}
 use Rattle.part_tree.specs.Names.{whole_ids}
 use Rattle.field_model.specs.Bext.{new_body}
@@ -20,19 +20,22 @@ use Rattle.container_model.proofs.Reread.{Neutral, Neutrals, IsPadded, lay_heads
 use Rattle.container_model.proofs.Items.{same_true}
 use Rattle.carrier_model.specs.Info.{own_size, is_padding, made, one_of, room, fill_by, riff_fill, info, info_items, InfoReady, ItemsSmall}
 use Rattle.carrier_model.specs.Lists.{ActReady}
-use Rattle.carrier_model.specs.Large.{Size, limited, first_above}
+use Rattle.part_tree.specs.Large.{Size, limited, first_above}
 use Rattle.carrier_model.specs.Cells.{acted}
 use Rattle.carrier_model.proofs.Cells.{Makes, all_acted}
 use Rattle.carrier_model.proofs.Info.{made_padded, fill_all, padding_no_list}
 use Rattle.container_model.specs.Ds64.{table_of}
 use Rattle.wave_model.specs.Wave.{is_big, sizes_of, Wave, wave_of, inner, spell_wave, cells_of}
 use Rattle.wave_model.specs.Fields.{has_id, is_bext, is_whole, is_info, is_marked, body_in, bodies}
-use Rattle.wave_model.specs.Carry.{info_part, edits_bext, names_whole, or_last, whole_part, bext_act, steps, carried, stepped}
-use Rattle.wave_model.specs.New.{is_nil, ends_file, fill_of, new_children, new_size, new_pad, new_wave}
+use Rattle.wave_model.specs.Carry.{info_part, edits_bext, names_whole, or_last, whole_part, bext_act, steps}
+use Rattle.carrier_model.specs.Steps.{carried, stepped}
+use Rattle.wave_model.specs.New.{ends_file, fill_of, new_children, new_size, new_wave}
+use Rattle.carrier_model.specs.RiffForm.{new_pad}
+use Rattle.container_model.specs.Items.{is_nil}
 use Rattle.wave_model.specs.Edited.{is_carrier, parts, Supported}
 use Rattle.wave_model.specs.Large.{form_sizes, FormSmall, all_sizes}
 use Rattle.wave_model.proofs.Read.{most, OfRiff, IsRead, neutral}
-use Rattle.wave_model.proofs.Steps.{AllMake, live_carried, gaps_carried, pads_carried, NowCells, now_carried, now_live, now_both, Own, heads_carried, cell_heads, same_state}
+use Rattle.carrier_model.proofs.Steps.{AllMake, live_carried, gaps_carried, pads_carried, NowCells, now_carried, now_live, now_both, Own, heads_carried, cell_heads, same_state}
 use Rattle.wave_model.proofs.Acts.{IsMade, all_made, all_own, bext_after, whole_after, junk_bext, junk_whole}
 use Rattle.wave_model.proofs.Ready.{bodies_each, each_body, ListEnds, act_ready}
 use Rattle.wave_model.proofs.Values.{ItemFine, ItemsFine, after_bext, after_info, all_bext, info_bodies, all_whole, eq_sym, all_ends}
@@ -50,7 +53,11 @@ pub record Fits (w : Wave) (e : List RawItem) : Type 0 where
   pub form : FormSmall w.form w.id (new_size w e)
   pub file : length (spell_wave (new_wave w e)) ≤ 2 ^ 63 - 1
 
-none_above : (ss : List Size) → first_above ss ≡ None → AllByRecursion (λ s. s.size ≤ s.limit) ss
+-- the lists of the new form have at most 16 MiB each
+abbrev pub ListsSmall : Wave → List RawItem → Type 0
+ListsSmall w e = AllByRecursion (λ b. length b ≤ 2 ^ 24) (bodies is_info (new_children w e))
+
+pub none_above : (ss : List Size) → first_above ss ≡ None → AllByRecursion (λ s. s.size ≤ s.limit) ss
 none_above [] e = tt
 none_above (s ∷ ss) e = go (ltb s.limit s.size) refl e (none_above ss)
   where
@@ -58,15 +65,15 @@ none_above (s ∷ ss) e = go (ltb s.limit s.size) refl e (none_above ss)
     go true i e again = absurd cc
     go false i e again = (ltb-false s.limit s.size i, again e)
 
-sizes_parts : (a b : List Size) → AllByRecursion (λ s. s.size ≤ s.limit) (a ++ b) → AllByRecursion (λ s. s.size ≤ s.limit) a × AllByRecursion (λ s. s.size ≤ s.limit) b
+pub sizes_parts : (a b : List Size) → AllByRecursion (λ s. s.size ≤ s.limit) (a ++ b) → AllByRecursion (λ s. s.size ≤ s.limit) a × AllByRecursion (λ s. s.size ≤ s.limit) b
 sizes_parts [] b h = (tt, h)
 sizes_parts (s ∷ a) b h = let g = sizes_parts a b h.1 in ((h.0, g.0), g.1)
 
-body_sizes : (bs : List (List ℕ)) → AllByRecursion (λ s. s.size ≤ s.limit) (map (λ b. limited (2 ^ 24) (length b)) bs) → AllByRecursion (λ b. length b ≤ 2 ^ 24) bs
+pub body_sizes : (bs : List (List ℕ)) → AllByRecursion (λ s. s.size ≤ s.limit) (map (λ b. limited (2 ^ 24) (length b)) bs) → AllByRecursion (λ b. length b ≤ 2 ^ 24) bs
 body_sizes [] h = tt
 body_sizes (b ∷ bs) h = (h.0, body_sizes bs h.1)
 
-form_small : (form : Form) (id : List ℕ) (n : ℕ) → AllByRecursion (λ s. s.size ≤ s.limit) (form_sizes form id n) → FormSmall form id n
+pub form_small : (form : Form) (id : List ℕ) (n : ℕ) → AllByRecursion (λ s. s.size ≤ s.limit) (form_sizes form id n) → FormSmall form id n
 form_small wide id n h = tt
 form_small riff id n h = h.0
 form_small short id n h = h.0
@@ -85,7 +92,7 @@ fits_from w e h =
 
 -- ---- the padding of units
 
-room_small : (slot : List ℕ) (s : ℕ) → length (room (length slot - s) slot s) < 2 ^ 32 - 1
+pub room_small : (slot : List ℕ) (s : ℕ) → length (room (length slot - s) slot s) < 2 ^ 32 - 1
 room_small slot s = go ((eqb ((length slot - s) % 2) 0) && (leb 8 (length slot - s) && ltb (length slot - s) (2 ^ 32))) ((eqb ((length slot - s) % 2) 1) && (leb 9 (length slot - s) && ltb (length slot - s) (2 ^ 32))) refl refl
   where
     low : (d : ℕ) → (leb d (length slot - s) && ltb (length slot - s) (2 ^ 32)) ≡ true → length slot - s < 2 ^ 32
@@ -169,7 +176,7 @@ part_small w (i ∷ e) f = or_small (cond (names_whole w i.name) (Some i.value) 
     one (Bext field) v h = tt
     one (Info id) v h = tt
     one (Whole id) v h = by (bytes_eq id.0 w) v (set v id.0 h)
-    one (User id) v h = tt
+    one name v h = tt
 
 after_small : (a : Option (Option Value)) (bs : List (List ℕ)) → WholeSmall a → AllByRecursion Small bs → AllByRecursion Small (whole_after a bs)
 after_small None bs h g = g
@@ -234,7 +241,7 @@ pad_stands old n pad tail h = go (eqb old n) refl
 
 -- ---- no chunk is longer than what is spelled of all
 
-low_bodies : (n : ℕ) (cs : List Chunk) → length (spell_all cs) ≤ n → AllByRecursion (λ c. length c.body ≤ n) cs
+pub low_bodies : (n : ℕ) (cs : List Chunk) → length (spell_all cs) ≤ n → AllByRecursion (λ c. length c.body ≤ n) cs
 low_bodies n [] h = tt
 low_bodies n (c ∷ cs) h =
     let a = length-append (spell c) (spell_all cs) in
@@ -251,7 +258,14 @@ made_padded_all (s ∷ ss) h = ((λ cs. one (s cs) (h.0 cs)), made_padded_all ss
     one (Rattle.carrier_model.specs.Cells.change p g) m = λ n c. All-map (λ d h. h.padded) _ (m n c)
     one (Rattle.carrier_model.specs.Cells.add s t c) m = m.padded
 
-module _ (o : List ℕ) (bytes : IsBytes o) (sup : Supported o) (e : List RawItem) (f : ItemsFine e) (fits : Fits (wave_of o) e) where
+pub pads_behind : (o : List ℕ) → IsBytes o → Supported o → Pads (wave_of o).children (wave_of o).left
+pads_behind o bytes sup = behind (wave_of o).ds64 (old_pads o bytes sup)
+  where
+    behind : (a : List Chunk) → Pads (a ++ (wave_of o).children) (wave_of o).left → Pads (wave_of o).children (wave_of o).left
+    behind [] h = h
+    behind (c ∷ a) h = behind a h.1
+
+module _ (o : List ℕ) (bytes : IsBytes o) (sup : Supported o) (e : List RawItem) (f : ItemsFine e) (small : ListsSmall (wave_of o) e) where
   old_own : AllByRecursion Own (wave_of o).children
   old_own = go (is_big (take 4 o)) refl
     where
@@ -348,7 +362,7 @@ module _ (o : List ℕ) (bytes : IsBytes o) (sup : Supported o) (e : List RawIte
       (rw (all_whole w g e old_live, old_seen (body_in (is_whole w)) (ignores_whole w g)) (after_small (whole_part w e) (bodies (is_whole w) (wave_of o).children) (part_small w e f) old))
 
   new_lists : AllByRecursion Small (bodies is_info (stepped (steps e) old_live))
-  new_lists = rw (← seen (body_in is_info) ignores_info) fits.lists
+  new_lists = rw (← seen (body_in is_info) ignores_info) small
 
   pub new_small : AllByRecursion CarrierSmall (stepped (steps e) old_live)
   new_small =
@@ -387,7 +401,7 @@ module _ (o : List ℕ) (bytes : IsBytes o) (sup : Supported o) (e : List RawIte
       let small_ones : NowCells CarrierSmall ys = now_live CarrierSmall ys (rw (live_carried (steps e) xs) new_small) in
       now_both IsMade CarrierSmall (Neutral riff_front) (λ c m s. neutral c m.plain.id_len m.plain.form_is (omega (arith, s m.carrier))) ys made_ones small_ones
 
-  old_state : Heads riff_front (sizes_of o) (wave_of o).children
+  pub old_state : Heads riff_front (sizes_of o) (wave_of o).children
   old_state = go (is_big (take 4 o)) (has_ds64 o bytes sup) (old_heads o bytes sup)
     where
       go : (t : Bool) → HasDs64 t (wave_of o).ds64 → Heads riff_front (sizes_of o) ((wave_of o).ds64 ++ (wave_of o).children) → Heads riff_front (sizes_of o) (wave_of o).children
@@ -403,15 +417,8 @@ module _ (o : List ℕ) (bytes : IsBytes o) (sup : Supported o) (e : List RawIte
       lay_heads riff_front (fill_of (wave_of o)) (λ last slot k. fill_neutral (ends_file (wave_of o)) last slot k) (sizes_of o) (sizes_of o) shut (carried (steps e) xs) refl
       (cell_heads (sizes_of o) (carried (steps e) xs) (heads_carried (steps e) (all_own e) (sizes_of o) xs (heads_cells (sizes_of o) (wave_of o).ds64 (wave_of o).children old_own old_state)) new_neutral)
 
-  pads_behind : Pads (wave_of o).children (wave_of o).left
-  pads_behind = behind (wave_of o).ds64 (old_pads o bytes sup)
-    where
-      behind : (a : List Chunk) → Pads (a ++ (wave_of o).children) (wave_of o).left → Pads (wave_of o).children (wave_of o).left
-      behind [] h = h
-      behind (c ∷ a) h = behind a h.1
-
   pub old_cell_pads : Rattle.container_model.proofs.Reread.CellPads (cells_of (wave_of o)) (wave_of o).left
-  old_cell_pads = pads_cells (wave_of o).ds64 (wave_of o).children (wave_of o).left pads_behind
+  old_cell_pads = pads_cells (wave_of o).ds64 (wave_of o).children (wave_of o).left (pads_behind o bytes sup)
 
   pub new_pads : Pads (new_children (wave_of o) e) (wave_of o).left
   new_pads =

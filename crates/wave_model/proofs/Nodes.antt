@@ -20,7 +20,7 @@ use Rattle.carrier_model.proofs.Lists.{insert_nodes}
 use Rattle.carrier_model.proofs.Info.{info_rereads, part_sets, closed_is, fresh_is}
 use Rattle.wave_model.specs.Fields.{has_id, is_bext, is_whole, is_info, is_marked, plain_nodes, nodes_of, nodes}
 use Rattle.wave_model.specs.Carry.{edits_bext, whole_part, some_chunk, is_format, bext_by, bext_act, first_becomes, whole_by, whole_act, is_sign, has_sign, without_sign, first_sign, place_bext_by, place_bext, place_whole_by, place_whole, place_wholes}
-use Rattle.wave_model.specs.Carry.{stepped}
+use Rattle.carrier_model.specs.Steps.{stepped}
 use Rattle.wave_model.proofs.Acts.{made_is}
 
 -- ---- the identifiers of marks
@@ -47,7 +47,7 @@ data Kind (c : Chunk) : Type 0 where
   a_list : c.id ≡ codes "LIST" → nodes_of c ≡ list (items_of info info_items c) (list_run c).left ∷ [] → Kind c
   a_padding : c.id ≡ codes "JUNK" → nodes_of c ≡ [] → Kind c
   a_mark : own_size c.form ≡ true → one_of marks c.id ≡ true → nodes_of c ≡ sign c.id ∷ [] → Kind c
-  a_leaf : (own_size c.form && one_of marks c.id) ≡ false → nodes_of c ≡ other c.form c.id c.body ∷ [] → Kind c
+  a_leaf : (own_size c.form && one_of marks c.id) ≡ false → nodes_of c ≡ other Rattle.container_model.specs.Chunk.riff c.id c.body ∷ [] → Kind c
 
 kind_of : (c : Chunk) → Kind c
 kind_of c = go (is_info c) refl (is_padding c) refl (is_marked c) refl
@@ -121,7 +121,7 @@ any_whole w e (c ∷ cs) = ap (λ (b : Bool). b || list_any (is_whole w) cs) (sa
 pub no_lists : (c : Chunk) → AllByRecursion (λ x. has_list (x ∷ []) ≡ false) (plain_nodes c)
 no_lists c = go (is_padding c) (is_marked c)
   where
-    go : (t u : Bool) → AllByRecursion (λ x. has_list (x ∷ []) ≡ false) (cond t [] (cond u (sign c.id ∷ []) (other c.form c.id c.body ∷ [])))
+    go : (t u : Bool) → AllByRecursion (λ x. has_list (x ∷ []) ≡ false) (cond t [] (cond u (sign c.id ∷ []) (other Rattle.container_model.specs.Chunk.riff c.id c.body ∷ [])))
     go true u = tt
     go false true = (refl, tt)
     go false false = (refl, tt)
@@ -136,7 +136,7 @@ sees_never c = go (kind_of c)
     go (a_list i n) = inl (list (items_of info info_items c) (list_run c).left, n, refl)
     go (a_padding i n) = inr (n, refl)
     go (a_mark o m n) = inl (sign c.id, n, refl)
-    go (a_leaf m n) = inl (other c.form c.id c.body, n, refl)
+    go (a_leaf m n) = inl (other Rattle.container_model.specs.Chunk.riff c.id c.body, n, refl)
 
 sees_format : Sees is_format
 sees_format c = go (kind_of c)
@@ -145,7 +145,7 @@ sees_format c = go (kind_of c)
     go (a_list i n) = inl (list (items_of info info_items c) (list_run c).left, n, sym (ap (λ (x : List ℕ). is_format x c.body) i))
     go (a_padding i n) = inr (n, ap (λ (x : List ℕ). is_format x c.body) i)
     go (a_mark o m n) = inl (sign c.id, n, sym (among_not c.id (codes "fmt ") m refl))
-    go (a_leaf m n) = inl (other c.form c.id c.body, n, refl)
+    go (a_leaf m n) = inl (other Rattle.container_model.specs.Chunk.riff c.id c.body, n, refl)
 
 insert_seen : (s : Side) (t : Test) (x : Chunk) (y : Node) (cs : List Chunk) → Sees t → nodes_of x ≡ y ∷ [] → nodes (insert s t x cs) ≡ insert_node s t y (nodes cs)
 insert_seen s t x y cs sees e = insert_nodes info info_items SetsInfo InfoReady ItemsSmall info_rereads part_sets closed_is fresh_is plain_nodes no_lists s t x y cs sees e

@@ -19,14 +19,18 @@ use Rattle.carrier_model.proofs.Fitted.{AllFit, LastOnly, last_units, fitting_le
 use Rattle.carrier_model.proofs.Room.{riff_fits}
 use Rattle.wave_model.specs.Wave.{is_big, Wave, wave_of, inner, spell_wave, cells_of}
 use Rattle.wave_model.specs.Fields.{fields}
-use Rattle.wave_model.specs.Carry.{steps, carried}
-use Rattle.wave_model.specs.New.{is_nil, ends_file, fill_of, pieces_of, new_children, new_size, new_pad, with_riff_size, sized_ds64, new_wave, new_file, children_at, with_size}
+use Rattle.wave_model.specs.Carry.{steps}
+use Rattle.carrier_model.specs.Steps.{carried}
+use Rattle.wave_model.specs.New.{ends_file, fill_of, pieces_of, new_children, new_size, with_riff_size, sized_ds64, new_wave, new_file, children_at}
+use Rattle.carrier_model.specs.RiffForm.{new_pad, with_size, size_patch}
+use Rattle.container_model.specs.Items.{is_nil}
 use Rattle.wave_model.specs.Edited.{Supported}
-use Rattle.wave_model.specs.Room.{size_patch, patches_in, patches, has_room, Room}
-use Rattle.carrier_model.specs.Order.{SoundPatches}
-use Rattle.wave_model.proofs.Steps.{was_carried}
+use Rattle.wave_model.specs.Room.{patches_in, patches, has_room, Room}
+use Rattle.part_tree.specs.Order.{SoundPatches}
+use Rattle.carrier_model.proofs.Steps.{was_carried}
 use Rattle.wave_model.proofs.Cells.{was_cells}
-use Rattle.wave_model.proofs.Again.{field_of, FormFine, IsForm, spelled, field_len}
+use Rattle.wave_model.proofs.Again.{FormFine, spelled}
+use Rattle.carrier_model.proofs.RiffForm.{field_of, IsForm, field_len}
 use Rattle.wave_model.proofs.Ds64.{HasDs64}
 use Rattle.wave_model.proofs.Form.{form_fine, old_form, spelled_is, has_ds64}
 use Rattle.wave_model.proofs.Edited.{apart, kind_len, sized, total_len, length_new}

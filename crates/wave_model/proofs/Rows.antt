@@ -148,7 +148,7 @@ two_titles_read : fields two_titles_dated (Info (four (codes "INAM"))) ≡ plain
 unfolding chunks read
 two_titles_read = refl
 
-description_too_wide : broken (kind_of short_sound) (fields short_sound) (record { name = Bext Description; change = Set (replicate 257 120) } ∷ []) Base ≡ Some (record { rule = 5; field = Bext Description })
+description_too_wide : broken (kind_of short_sound) 0 (fields short_sound) (record { name = Bext Description; change = Set (replicate 257 120) } ∷ []) Base ≡ Some (record { rule = 5; field = Bext Description })
 unfolding chunks read
 description_too_wide = refl
 

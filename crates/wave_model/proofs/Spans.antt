@@ -16,12 +16,15 @@ use Rattle.container_model.proofs.Items.{same_true}
 use Rattle.wave_model.specs.Wave.{is_big, Wave, wave_of, inner, spell_wave, cells_of}
 use Rattle.part_tree.specs.declared.field.EditItem.{EditItem}
 use Rattle.wave_model.specs.Fields.{fields}
-use Rattle.wave_model.specs.Carry.{steps, carried}
-use Rattle.wave_model.specs.New.{fill_of, pieces_of, new_children, new_size, new_pad, with_riff_size, sized_ds64, new_wave, children_at, pad_cut, edit_cuts, with_size, new_file, cuts_of, new_size_of}
+use Rattle.wave_model.specs.Carry.{steps}
+use Rattle.carrier_model.specs.Steps.{carried}
+use Rattle.wave_model.specs.New.{fill_of, pieces_of, new_children, new_size, with_riff_size, sized_ds64, new_wave, children_at, edit_cuts, new_file, cuts_of, new_size_of}
+use Rattle.carrier_model.specs.RiffForm.{new_pad, pad_cut, with_size}
 use Rattle.wave_model.specs.Edited.{Supported}
-use Rattle.wave_model.proofs.Steps.{was_carried}
+use Rattle.carrier_model.proofs.Steps.{was_carried}
 use Rattle.wave_model.proofs.Cells.{was_cells}
-use Rattle.wave_model.proofs.Again.{field_of, FormFine, IsForm, spelled, field_len}
+use Rattle.wave_model.proofs.Again.{FormFine, spelled}
+use Rattle.carrier_model.proofs.RiffForm.{field_of, IsForm, field_len}
 use Rattle.wave_model.proofs.Ds64.{HasDs64}
 use Rattle.wave_model.proofs.Form.{form_fine, old_form, spelled_is, has_ds64}
 use Rattle.wave_model.proofs.Edited.{kind_len, length_new}

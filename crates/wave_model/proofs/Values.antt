@@ -5,7 +5,7 @@ use Rattle.std.specs.Str.{bytes_eq}
 use Rattle.std.specs.List.{flat_map, list_any, AllByRecursion}
 use Rattle.std.proofs.lemmas.Bool.{cond-true, cond-false}
 use Rattle.part_tree.specs.declared.field.FieldName.{FieldName}
-use Rattle.part_tree.specs.declared.field.FieldName.TheVariants.{Bext, Info, Whole, User}
+use Rattle.part_tree.specs.declared.field.FieldName.TheVariants.{Bext, Info, Whole}
 use Rattle.part_tree.specs.declared.field.Value.{Value}
 use Rattle.part_tree.specs.Letters.{four}
 use Rattle.part_tree.specs.Names.{bext_row, info_ids, whole_ids, same_name}
@@ -23,8 +23,9 @@ use Rattle.carrier_model.proofs.Cells.{Unseen, acted_unseen, Makes, made_by, all
 use Rattle.carrier_model.proofs.Lists.{lists_values, lists_nodes, lists_end}
 use Rattle.carrier_model.proofs.Info.{info_rereads, part_sets, closed_is, fresh_is}
 use Rattle.wave_model.specs.Fields.{has_id, is_bext, is_whole, is_info, body_in, bodies, plain_nodes, nodes}
-use Rattle.wave_model.specs.Carry.{raw, info_item, info_part, edits_bext, names_whole, or_last, whole_part, bext_act, some_chunk, first_becomes, whole_by, whole_act, steps, stepped, placed, place_wholes}
-use Rattle.wave_model.proofs.Steps.{steps_unseen}
+use Rattle.wave_model.specs.Carry.{raw, info_item, info_part, edits_bext, names_whole, or_last, whole_part, bext_act, some_chunk, first_becomes, whole_by, whole_act, steps, placed, place_wholes}
+use Rattle.carrier_model.specs.Steps.{stepped}
+use Rattle.carrier_model.proofs.Steps.{steps_unseen}
 use Rattle.wave_model.proofs.Acts.{wholes_on, Blind, bext_unseen, info_unseen, whole_unseen, bext_after, bext_bodies, whole_after, whole_bodies}
 use Rattle.wave_model.proofs.Nodes.{bext_nodes, wholes_nodes, no_lists, sees_never}
 
@@ -163,7 +164,7 @@ info_sets (i ∷ e) = both (info_item i.name i.value) (one i.name i.value) (info
         go true e = (e, tt)
         go false e = tt
     one (Whole id) value = tt
-    one (User id) value = tt
+    one name value = tt
 
 module _ (e : List RawItem) (cs : List Chunk) (ready : ActReady info info_items InfoReady ItemsSmall (info_part e) (after_bext e cs)) where
   pub all_info : (name : List ℕ) → list_values info info_items name (stepped (steps e) cs) ≡ updated (info_part e) name (list_values info info_items name cs)
@@ -219,7 +220,7 @@ ItemFine (Info id) None = Unit {0}
 ItemFine (Info id) (Some v) = v.lang ≡ 0
 ItemFine (Whole id) None = Unit {0}
 ItemFine (Whole id) (Some v) = (v.lang ≡ 0) × (length v.raw ≤ 2 ^ 24)
-ItemFine (User id) value = ⊥
+ItemFine name value = ⊥
 
 abbrev pub ItemsFine : List RawItem → Type 0
 ItemsFine e = AllByRecursion (λ i. ItemFine i.name i.value) e
@@ -260,7 +261,7 @@ info_updated (i ∷ e) f id k vs =
     one (Bext field) value h = refl
     one (Info x) value h = by x.0 value h (one_of info_ids x.0) (bytes_eq id x.0) refl refl ∙ ap (λ (b : Bool). cond b (update.listed value) (map plain vs)) (eq_sym id x.0)
     one (Whole x) value h = refl
-    one (User x) value h = refl
+    one name value h = refl
 
 pub whole_updated : (e : List RawItem) → ItemsFine e → (w : List ℕ) (bs : List (List ℕ)) → map plain (whole_after (whole_part w e) bs) ≡ updated_values e (Whole (four w)) (map plain bs)
 whole_updated [] f w bs = refl
@@ -280,4 +281,4 @@ whole_updated (i ∷ e) f w bs =
     one (Bext field) value h = refl
     one (Info x) value h = refl
     one (Whole x) value h = by x.0 value h (bytes_eq x.0 w)
-    one (User x) value h = refl
+    one name value h = refl

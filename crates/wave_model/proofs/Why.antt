@@ -1,56 +1,20 @@
 -- A file is supported exactly where it isn't refused.
-use Rattle.std.proofs.Common.{◌≡◌, ℕ, ◌+◌, ◌≤◌, Bool, true, false, cond, List, [], ◌∷◌, ◌++◌, length, take, drop, Option, Some, None, refl, sym, ap, ◌∙◌, arith}
-use Rattle.std.specs.Prelude.{◌&&◌, ◌||◌, not, codes}
+use Rattle.std.proofs.Common.{◌≡◌, ℕ, ◌+◌, ◌≤◌, Bool, true, false, cond, List, [], ◌∷◌, ◌++◌, length, take, drop, Option, None, refl, sym, ap, ◌∙◌, arith}
+use Rattle.std.specs.Prelude.{◌&&◌, not, codes}
 use Rattle.std.specs.Str.{bytes_eq}
 use Rattle.std.specs.List.{flat_map, AllByRecursion}
 use Rattle.std.proofs.lemmas.Bool.{ltb-false, le-ltb, and_parts, not-false}
 use Rattle.std.proofs.lemmas.List.{length-append}
 use Rattle.part_tree.specs.declared.why.Why.{Why}
-use Rattle.container_model.specs.Chunk.{Chunk, spell, spell_all, Stop, ends, bad_header, passes, out_of_turns}
+use Rattle.container_model.specs.Chunk.{Chunk, spell, spell_all, Stop, ends}
 use Rattle.container_model.proofs.Items.{same_true}
+use Rattle.container_model.proofs.Tests.{AllFalse, first_none, none_first, or_none, guarded, guard, neither, none_of, stop_ends}
 use Rattle.carrier_model.specs.Info.{list_run}
 use Rattle.wave_model.specs.Wave.{is_big, form_run, firsts, wave_of}
 use Rattle.wave_model.specs.Fields.{is_bext, is_info, body_in, bodies}
 use Rattle.wave_model.specs.Edited.{is_kind, parts_of, formats, sounds, ChunkFine, IsFormat, ChildrenFine, Ds64Fine, Supported}
-use Rattle.wave_model.specs.Why.{first, or_else, kind_tests, ds64_tests, ds64_why, form_tests, Seen, is_fmt, is_data, see, ended, chunk_tests, children_why, is_bad, last_tests, last_why, nothing_seen, chunks_why, why}
-
--- ---- the first of several tests
-
-abbrev AllFalse : List (Bool × Why) → Type 0
-AllFalse ts = AllByRecursion (λ t. t.0 ≡ false) ts
-
-first_none : (ts : List (Bool × Why)) → first ts ≡ None → AllFalse ts
-first_none [] e = tt
-first_none (t ∷ ts) e = go t.0 refl e (first_none ts)
-  where
-    go : (b : Bool) → t.0 ≡ b → cond b (Some t.1) (first ts) ≡ None → (first ts ≡ None → AllFalse ts) → AllFalse (t ∷ ts)
-    go true i e again = absurd cc
-    go false i e again = (i, again e)
-
-none_first : (ts : List (Bool × Why)) → AllFalse ts → first ts ≡ None
-none_first [] h = refl
-none_first (t ∷ ts) h = rw h.0 (none_first ts h.1)
-
-or_none : (a b : Option Why) → or_else a b ≡ None → (a ≡ None) × (b ≡ None)
-or_none None b e = (refl, e)
-or_none (Some w) b e = absurd cc
-
--- a test that is guarded
-guarded : (a b : Bool) → (a && b) ≡ false → a ≡ true → b ≡ false
-guarded true b e i = e
-guarded false b e i = absurd cc
-
-guard : (a b : Bool) → (a ≡ true → b ≡ false) → (a && b) ≡ false
-guard true b h = h refl
-guard false b h = refl
-
-neither : (a b : Bool) → (a || b) ≡ false → (a ≡ false) × (b ≡ false)
-neither true b e = absurd cc
-neither false b e = (refl, e)
-
-none_of : (a b : Bool) → a ≡ false → b ≡ false → (a || b) ≡ false
-none_of true b e i = absurd cc
-none_of false b e i = i
+use Rattle.wave_model.specs.Why.{kind_tests, ds64_tests, ds64_why, form_tests, Seen, is_fmt, is_data, see, chunk_tests, children_why, is_bad, last_tests, last_why, nothing_seen, chunks_why, why}
+use Rattle.container_model.specs.Tests.{first, or_else, ended}
 
 -- ---- one chunk
 
@@ -62,12 +26,6 @@ record Good (s : Seen) (c : Chunk) : Type 0 where
   is_format : is_fmt c ≡ true → IsFormat c.body
   one_sound : is_data c ≡ true → s.sounds ≤ 0
   few_parts : s.parts + length (parts_of c) ≤ 65536
-
-stop_ends : (stop : Stop) → not (ended stop) ≡ false → stop ≡ ends
-stop_ends ends e = refl
-stop_ends bad_header e = absurd cc
-stop_ends passes e = absurd cc
-stop_ends out_of_turns e = absurd cc
 
 good_from : (at : ℕ) (s : Seen) (c : Chunk) → AllFalse (chunk_tests at s c) → Good s c
 good_from at s c h = record {

@@ -11,11 +11,11 @@ use Rattle.field_model.specs.Body.{edited_bext}
 use Rattle.field_model.specs.Update.{RawItem}
 use Rattle.field_model.specs.Update as update
 use Rattle.container_model.specs.Chunk.{Chunk}
-use Rattle.container_model.specs.Units.{Cell, live}
 use Rattle.container_model.specs.Items.{Item}
-use Rattle.carrier_model.specs.Cells.{Change, become, Test, never, behind, before, Act, nothing, change, add, acted, acted_cells}
+use Rattle.carrier_model.specs.Cells.{Change, become, Test, never, behind, before, Act, nothing, change, add}
 use Rattle.carrier_model.specs.Info.{made, one_of, info, info_items}
 use Rattle.carrier_model.specs.Lists.{lists_act, Node, list, sign, other, place_lists, insert_node}
+use Rattle.carrier_model.specs.Steps.{Step}
 use Rattle.wave_model.specs.Fields.{is_bext, is_whole}
 
 -- the bytes of a value
@@ -92,23 +92,9 @@ whole_act w e cs = whole_by w (whole_part w e) (some_chunk (is_whole w) cs)
 
 -- ---- all of them, in this order; so new ones come last as LIST INFO, `axml`, `iXML`, `_PMX`, `MD5 `
 
--- a part of an edit, by the chunks that are there
-abbrev pub Step : Type 0
-Step = List Chunk → Act
-
 -- the parts of an edit
 abbrev pub steps : List RawItem → List Step
 steps e = bext_act e ∷ lists_act info info_items never (info_part e) ∷ map (λ w. whole_act w e) whole_ids
-
--- the cells after all parts
-abbrev pub carried : List Step → List Cell → List Cell
-carried [] xs = xs
-carried (s ∷ ss) xs = carried ss (acted_cells (s (flat_map live xs)) xs)
-
--- the chunks after all parts
-abbrev pub stepped : List Step → List Chunk → List Chunk
-stepped [] cs = cs
-stepped (s ∷ ss) cs = stepped ss (acted (s cs) cs)
 
 -- ---- where the nodes stand after an edit
 

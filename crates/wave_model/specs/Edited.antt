@@ -26,6 +26,11 @@ blocks (suc k) n (x ∷ b) = take n (x ∷ b) ∷ blocks k n (drop n (x ∷ b))
 abbrev pub block_size : List ℕ → ℕ
 block_size f = from_le_bytes w16 (take 2 (drop 12 f))
 
+-- the block size of the first format
+abbrev pub first_size : List (List ℕ) → ℕ
+first_size [] = 0
+first_size (f ∷ fs) = block_size f
+
 -- the bodies of `fmt `
 abbrev pub formats : List Chunk → List (List ℕ)
 formats cs = bodies (has_id (codes "fmt ")) cs
@@ -132,13 +137,13 @@ pub record Supported (b : List ℕ) : Type 0 where
 
 -- ---- the six clauses
 
--- the body of a JUNK that comes first
-abbrev pub junk_first : List Chunk → List (List ℕ)
+-- a JUNK that comes first
+abbrev pub junk_first : List Chunk → List Chunk
 junk_first [] = []
-junk_first (c ∷ cs) = if is_padding c then c.body ∷ [] else []
+junk_first (c ∷ cs) = if is_padding c then c ∷ [] else []
 
--- the body of a JUNK directly behind the form's type
-abbrev pub first_junk : Wave → List (List ℕ)
+-- a JUNK directly behind the form's type
+abbrev pub first_junk : Wave → List Chunk
 first_junk w = junk_first (w.ds64 ++ w.children)
 
 -- what the new file is to the old one
@@ -147,5 +152,5 @@ pub record Edited (o : List ℕ) (e : List EditItem) (n : List ℕ) : Type 0 whe
   pub reads_back : (name : FieldName) → IsFieldName name → fields n name ≡ update (fields o) e name
   pub kept_in_order : kept_of n ≡ placed_in (raw_items (fields o) e) (kept_of o)
   pub same_pieces : pieces n ≡ pieces o
-  pub same_junk : (body : List ℕ) → first_junk (wave_of o) ≡ body ∷ [] → first_junk (wave_of n) ≡ body ∷ []
+  pub same_junk : (c : Chunk) → first_junk (wave_of o) ≡ c ∷ [] → first_junk (wave_of n) ≡ c ∷ []
   pub no_effect : effective (fields o) e ≡ [] → n ≡ o

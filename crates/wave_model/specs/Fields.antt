@@ -4,11 +4,11 @@ use Rattle.std.specs.Prelude.{ℕ, List, [], ◌∷◌, map, Bool, ◌&&◌, cod
 use Rattle.std.specs.Str.{bytes_eq}
 use Rattle.std.specs.List.{flat_map}
 use Rattle.part_tree.specs.declared.field.FieldName.{FieldName}
-use Rattle.part_tree.specs.declared.field.FieldName.TheVariants.{Bext, Info, Whole, User}
+use Rattle.part_tree.specs.declared.field.FieldName.TheVariants.{Bext, Info, Whole}
 use Rattle.part_tree.specs.Names.{bext_row, whole_ids}
 use Rattle.field_model.specs.Bext.{range_of}
 use Rattle.field_model.specs.Fields.{FieldMap, plain}
-use Rattle.container_model.specs.Chunk.{Chunk}
+use Rattle.container_model.specs.Chunk.{riff, Chunk}
 use Rattle.carrier_model.specs.Info.{own_size, is_padding, is_type, one_of, info, info_items}
 use Rattle.carrier_model.specs.Lists.{list_values, Node, sign, other, nodes_in}
 use Rattle.wave_model.specs.Wave.{wave_of}
@@ -46,7 +46,7 @@ abbrev pub raws_of : List Chunk → FieldName → List (List ℕ)
 raws_of cs (Bext field) = map (range_of (bext_row field)) (bodies is_bext cs)
 raws_of cs (Info id) = list_values info info_items id.0 cs
 raws_of cs (Whole id) = bodies (is_whole id.0) cs
-raws_of cs (User id) = []
+raws_of cs name = []
 
 -- the fields of some chunks
 abbrev pub fields_of : List Chunk → FieldMap
@@ -64,7 +64,7 @@ is_marked c = own_size c.form && one_of (codes "bext" ∷ whole_ids) c.id
 
 -- the node of a chunk that is no list
 abbrev pub plain_nodes : Chunk → List Node
-plain_nodes c = if is_padding c then [] else (if is_marked c then sign c.id ∷ [] else other c.form c.id c.body ∷ [])
+plain_nodes c = if is_padding c then [] else (if is_marked c then sign c.id ∷ [] else other riff c.id c.body ∷ [])
 
 -- the node of a chunk
 abbrev pub nodes_of : Chunk → List Node

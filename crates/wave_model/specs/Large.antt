@@ -3,7 +3,7 @@ use Rattle.std.specs.Prelude.{◌≤◌, ℕ, ◌-◌, ◌^◌, List, [], ◌∷
 use Rattle.part_tree.specs.declared.field.EditItem.{EditItem}
 use Rattle.field_model.specs.Update.{RawItem, raw_items, effective}
 use Rattle.container_model.specs.Chunk.{Form, wide}
-use Rattle.carrier_model.specs.Large.{Size, limited, first_above}
+use Rattle.part_tree.specs.Large.{Size, limited, first_above}
 use Rattle.wave_model.specs.Wave.{is_big, Wave, wave_of, spell_wave}
 use Rattle.wave_model.specs.Fields.{is_info, bodies, fields}
 use Rattle.wave_model.specs.New.{new_children, new_size, new_wave}

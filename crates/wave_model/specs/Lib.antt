@@ -7,3 +7,6 @@ pub mod Large
 pub mod Why
 pub mod Room
 pub mod Map
+pub mod Widen
+pub mod Kind
+pub mod Twin

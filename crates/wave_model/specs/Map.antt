@@ -1,18 +1,19 @@
 -- What a reader tells of a WAVE file: its parts with their roles, the end of its form, its sound and the size of a block.
-use Rattle.std.specs.Prelude.{ℕ, ◌+◌, List, [], ◌∷◌, ◌++◌, length, take, drop, ◌&&◌, codes, if◌then◌else◌}
+use Rattle.std.specs.Prelude.{ℕ, ◌+◌, List, [], ◌∷◌, ◌++◌, length, map, take, drop, ◌&&◌, codes, if◌then◌else◌}
 use Rattle.std.specs.List.{flat_map}
 use Rattle.part_tree.specs.Letters.{four}
 use Rattle.part_tree.specs.Names.{whole_ids}
+use Rattle.part_tree.specs.Parts.{rest_parts}
 use Rattle.part_tree.specs.declared.names.Span.{Span}
 use Rattle.part_tree.specs.declared.part.Part.{Part}
 use Rattle.part_tree.specs.declared.part.Role.{Role}
 use Rattle.part_tree.specs.declared.part.Role.TheVariants.{Opaque, Padding, Bext, Info, Whole, Sizes, Essence}
-use Rattle.container_model.specs.Chunk.{Chunk, spell}
+use Rattle.container_model.specs.Chunk.{Chunk, spell, spell_all, Run}
 use Rattle.carrier_model.specs.Info.{own_size, is_padding, one_of, list_run}
-use Rattle.wave_model.specs.Wave.{form_size, Wave, wave_of}
+use Rattle.wave_model.specs.Wave.{form_size, Wave, wave_of, inner}
 use Rattle.wave_model.specs.Fields.{has_id, is_bext, is_info}
 use Rattle.wave_model.specs.New.{children_at}
-use Rattle.wave_model.specs.Edited.{formats, block_size, parts_of}
+use Rattle.wave_model.specs.Edited.{formats, first_size}
 
 -- ---- parts
 
@@ -39,9 +40,13 @@ abbrev pub item_parts : ℕ → List Chunk → List Part
 item_parts at [] = []
 item_parts at (c ∷ cs) = part Opaque at c ∷ item_parts (at + length (spell c)) cs
 
--- a chunk of the form, and the items of a list of type INFO behind its type
+-- the items of a list behind its type, and its rest
+abbrev pub list_parts : ℕ → Run → List Part
+list_parts at r = item_parts at r.chunks ++ rest_parts (at + length (spell_all r.chunks)) r.left
+
+-- a chunk of the form, and what stands in a list of type INFO
 abbrev pub chunk_parts : Role → ℕ → Chunk → List Part
-chunk_parts role at c = part role at c ∷ (if is_info c then item_parts (at + 12) (list_run c).chunks else [])
+chunk_parts role at c = part role at c ∷ (if is_info c then list_parts (at + 12) (list_run c) else [])
 
 -- chunks that follow each other from a place on
 abbrev pub later_parts : ℕ → List Chunk → List Part
@@ -59,17 +64,30 @@ abbrev pub ds64_parts : List Chunk → List Part
 ds64_parts [] = []
 ds64_parts (d ∷ ds) = part Sizes 12 d ∷ []
 
+-- the rest of a form, and the tail behind its pad
+abbrev pub rests_in : Wave → List Part
+rests_in w = rest_parts (children_at w + length (spell_all w.children)) w.left ++ rest_parts (8 + length (inner w) + length w.pad) w.tail
+
 -- the parts of a form
 abbrev pub parts_in : Wave → List Part
-parts_in w = ds64_parts w.ds64 ++ parts_behind w.ds64 (children_at w) w.children
+parts_in w = ds64_parts w.ds64 ++ (parts_behind w.ds64 (children_at w) w.children ++ rests_in w)
 
 -- the parts of a file, in the order of reading
 abbrev pub parts_of_file : List ℕ → List Part
 parts_of_file b = parts_in (wave_of b)
 
--- the chunks that are parts, in this order
-abbrev pub chunks_in : Wave → List Chunk
-chunks_in w = w.ds64 ++ flat_map parts_of w.children
+-- a rest, if there are bytes
+abbrev pub rest_bodies : List ℕ → List (List ℕ)
+rest_bodies [] = []
+rest_bodies (x ∷ b) = (x ∷ b) ∷ []
+
+-- the body of a chunk, and of what stands in a list of type INFO
+abbrev pub bodies_of : Chunk → List (List ℕ)
+bodies_of c = c.body ∷ (if is_info c then map (λ d. d.body) (list_run c).chunks ++ rest_bodies (list_run c).left else [])
+
+-- the bodies of the parts, in this order
+abbrev pub bodies_in : Wave → List (List ℕ)
+bodies_in w = map (λ d. d.body) w.ds64 ++ (flat_map bodies_of w.children ++ (rest_bodies w.left ++ rest_bodies w.tail))
 
 -- the bytes of a part's body in a file
 abbrev pub told_body : List ℕ → Part → List ℕ
@@ -93,11 +111,6 @@ sound_from at (c ∷ cs) = if has_id (codes "data") c then body_span at c else s
 -- the body of `data`
 abbrev pub sound : List ℕ → Span
 sound b = sound_from (children_at (wave_of b)) (wave_of b).children
-
--- the block size of the first format
-abbrev pub first_size : List (List ℕ) → ℕ
-first_size [] = 0
-first_size (f ∷ fs) = block_size f
 
 -- nBlockAlign of `fmt `
 abbrev pub align : List ℕ → ℕ

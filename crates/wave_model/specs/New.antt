@@ -1,49 +1,45 @@
 -- The new file, and the spans of the old one that it replaces (this project's own).
-use Rattle.std.specs.Prelude.{ℕ, ◌+◌, ◌%◌, List, [], ◌∷◌, ◌++◌, length, take, drop, map, Bool, true, false, ◌&&◌, not, ◌==◌, if◌then◌else◌}
-use Rattle.std.specs.Int.{w32, w64, to_le_bytes}
-use Rattle.std.specs.Str.{bytes_eq}
+use Rattle.std.specs.Prelude.{ℕ, List, ◌++◌, drop, map, Bool, codes}
+use Rattle.std.specs.Int.{w64, to_le_bytes}
 use Rattle.part_tree.specs.declared.field.EditItem.{EditItem}
 use Rattle.field_model.specs.Update.{RawItem, raw_items}
 use Rattle.container_model.specs.Chunk.{Form, wide, Chunk, spell_all}
-use Rattle.container_model.specs.Units.{Piece, shut, Fill, units, lay, cuts}
+use Rattle.container_model.specs.Units.{Cell, Piece, shut, Fill, units}
 use Rattle.container_model.specs.Splice.{Cut}
-use Rattle.carrier_model.specs.Info.{riff_fill}
-use Rattle.wave_model.specs.Wave.{Wave, wave_of, inner, spell_wave, cells_of}
+use Rattle.carrier_model.specs.RiffForm.{RiffForm, pad_after, form_cuts}
+use Rattle.carrier_model.specs.RiffForm as riff
+use Rattle.carrier_model.specs.Steps.{carried}
+use Rattle.wave_model.specs.Wave.{Wave, wave_of, spell_wave, cells_of}
 use Rattle.wave_model.specs.Fields.{fields}
-use Rattle.wave_model.specs.Carry.{steps, carried}
+use Rattle.wave_model.specs.Carry.{steps}
 
--- no bytes
-abbrev pub is_nil : List ℕ → Bool
-is_nil [] = true
-is_nil (x ∷ xs) = false
+-- a file as a form of RIFF: the type and ds64 come before the chunks that are edited
+abbrev pub riff_of : Wave → RiffForm
+riff_of w = record { form = w.form; id = w.id; front = codes "WAVE" ++ spell_all w.ds64; children = w.children; left = w.left; pad = w.pad; tail = w.tail }
+
+-- the cells of its chunks after an edit
+abbrev pub edited_cells : Wave → List RawItem → List Cell
+edited_cells w e = carried (steps e) (cells_of w)
 
 -- The last slot ends the file where no rest, no pad of the form and no tail follow it.
 abbrev pub ends_file : Wave → Bool
-ends_file w = is_nil w.left && (is_nil w.pad && is_nil w.tail)
+ends_file w = riff.ends_file (riff_of w)
 
 -- the padding of units in a file
 abbrev pub fill_of : Wave → Fill
-fill_of w = riff_fill (ends_file w)
+fill_of w = riff.fill_of (riff_of w)
 
 -- the copied chunks and the units of an edit
 abbrev pub pieces_of : Wave → List RawItem → List Piece
-pieces_of w e = units shut (carried (steps e) (cells_of w))
+pieces_of w e = units shut (edited_cells w e)
 
 -- the chunks of the new form
 abbrev pub new_children : Wave → List RawItem → List Chunk
-new_children w e = lay (fill_of w) (pieces_of w e)
-
--- the form with these chunks
-abbrev pub with_children : Wave → List RawItem → Wave
-with_children w e = record w { children = new_children w e }
+new_children w e = riff.new_children (riff_of w) (edited_cells w e)
 
 -- the size that the new form has
 abbrev pub new_size : Wave → List RawItem → ℕ
-new_size w e = length (inner (with_children w e))
-
--- A form's pad stays where its size does; else it is there exactly where the size is odd and a tail follows.
-abbrev pub new_pad : ℕ → ℕ → List ℕ → List ℕ → List ℕ
-new_pad old new pad tail = if old == new then pad else (if (new % 2 == 1) && not (is_nil tail) then 0 ∷ [] else [])
+new_size w e = riff.new_size (riff_of w) (edited_cells w e)
 
 -- riffSize stands first in ds64
 abbrev pub with_riff_size : ℕ → Chunk → Chunk
@@ -60,7 +56,7 @@ new_wave w e =
     record w {
       ds64 = sized_ds64 w.form (new_size w e) w.ds64;
       children = new_children w e;
-      pad = new_pad (length (inner w)) (new_size w e) w.pad w.tail;
+      pad = pad_after (riff_of w) (edited_cells w e);
     }
 
 -- the new file
@@ -71,17 +67,11 @@ new_file o e = spell_wave (new_wave (wave_of o) (raw_items (fields o) e))
 
 -- where the chunks behind ds64 begin
 abbrev pub children_at : Wave → ℕ
-children_at w = 12 + length (spell_all w.ds64)
-
--- the form's pad, where it comes, goes or changes
-abbrev pub pad_cut : ℕ → List ℕ → List ℕ → List Cut
-pad_cut at old new = if bytes_eq old new then [] else record { at = at; len = length old; bytes = new } ∷ []
+children_at w = riff.children_at (riff_of w)
 
 -- the spans that an edit replaces: the slots of its units, and the pad of the form
 abbrev pub edit_cuts : Wave → List RawItem → List Cut
-edit_cuts w e =
-    cuts (fill_of w) (children_at w) (pieces_of w e)
-    ++ pad_cut (8 + length (inner w)) w.pad (new_pad (length (inner w)) (new_size w e) w.pad w.tail)
+edit_cuts w e = form_cuts (riff_of w) (edited_cells w e)
 
 -- the same of a file
 abbrev pub cuts_of : List ℕ → List EditItem → List Cut
@@ -90,8 +80,3 @@ cuts_of o e = edit_cuts (wave_of o) (raw_items (fields o) e)
 -- the size of the new file's form
 abbrev pub new_size_of : List ℕ → List EditItem → ℕ
 new_size_of o e = new_size (wave_of o) (raw_items (fields o) e)
-
--- the form's size set: in its own field, or in ds64
-abbrev pub with_size : Form → ℕ → List ℕ → List ℕ
-with_size wide n b = take 20 b ++ (to_le_bytes w64 n ++ drop 28 b)
-with_size _ n b = take 4 b ++ (to_le_bytes w32 n ++ drop 8 b)

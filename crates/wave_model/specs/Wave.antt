@@ -1,8 +1,9 @@
 -- A WAVE file: its form, the chunk ds64 where it has one, the chunks behind it, and what is behind the form.
--- (Microsoft and IBM, Multimedia Programming Interface and Data Specifications 1.0; EBU Tech 3306 for RF64.)
+-- (Microsoft and IBM, Multimedia Programming Interface and Data Specifications 1.0; EBU Tech 3306 for RF64; ITU-R BS.2088 for BW64.)
 use Rattle.std.specs.Prelude.{ℕ, List, [], ◌∷◌, ◌++◌, take, drop, map, Bool, true, false, ◌&&◌, ◌==◌, codes, if◌then◌else◌}
+use Rattle.std.specs.Str.{bytes_eq}
 use Rattle.part_tree.specs.declared.names.Kind.{Kind}
-use Rattle.part_tree.specs.declared.names.Kind.TheVariants.{Rf64, Wave as WaveKind}
+use Rattle.part_tree.specs.declared.names.Kind.TheVariants.{Rf64, Bw64, Wave as WaveKind}
 use Rattle.container_model.specs.Chunk.{Form, riff, wide, Chunk, spell, spell_all, pad_len, Run, chunks}
 use Rattle.container_model.specs.Sizes.{Sizes, plain, riff_front}
 use Rattle.container_model.specs.Ds64.{le32, le64, table_of}
@@ -11,7 +12,7 @@ use Rattle.carrier_model.specs.Info.{one_of, is_padding}
 
 -- the forms of which a chunk ds64 holds the sizes of 64 bits
 abbrev pub big_forms : List (List ℕ)
-big_forms = codes "RF64" ∷ []
+big_forms = codes "RF64" ∷ codes "BW64" ∷ []
 
 -- whether a form is one of these
 abbrev pub is_big : List ℕ → Bool
@@ -42,7 +43,7 @@ behind_form b = drop (form_size b) (drop 8 b)
 
 -- the kind of a file of such a form
 abbrev pub kind_of : List ℕ → Kind
-kind_of b = if is_big (take 4 b) then Rf64 else WaveKind
+kind_of b = if is_big (take 4 b) then (if bytes_eq (codes "BW64") (take 4 b) then Bw64 else Rf64) else WaveKind
 
 -- where the sizes of a file's chunks stand
 abbrev pub sizes_of : List ℕ → Sizes

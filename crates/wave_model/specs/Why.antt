@@ -1,25 +1,16 @@
 -- Why a WAVE file is refused: the first test that holds, chunk after chunk (this project's own order).
-use Rattle.std.specs.Prelude.{ℕ, ◌+◌, ◌*◌, ◌^◌, nat_lt, List, [], ◌∷◌, length, take, drop, Bool, true, false, ◌&&◌, ◌||◌, not, codes, Option, Some, None, if◌then◌else◌}
+use Rattle.std.specs.Prelude.{ℕ, ◌+◌, ◌*◌, ◌^◌, nat_lt, List, [], ◌∷◌, length, take, drop, Bool, true, false, ◌&&◌, ◌||◌, not, codes, Option, None}
 use Rattle.std.specs.Str.{bytes_eq}
 use Rattle.part_tree.specs.declared.why.Why.{Why}
 use Rattle.part_tree.specs.declared.why.Why.TheVariants.{UnknownKind, Truncated, NoFmt, ShortFmt, TwoFmt, BlockZero, NoData, TwoData, NoDs64, ShortDs64, RowMissing, ShortBext, TwoBext, CarrierBig, TooManyParts}
 use Rattle.part_tree.specs.Letters.{four}
 use Rattle.container_model.specs.Chunk.{Chunk, spell, spell_all, Stop, ends, bad_header, passes, out_of_turns}
+use Rattle.container_model.specs.Tests.{first, or_else, ended}
 use Rattle.carrier_model.specs.Info.{list_run}
 use Rattle.container_model.specs.Ds64.{le32}
 use Rattle.wave_model.specs.Wave.{is_big, form_size, form_run, wave_of}
 use Rattle.wave_model.specs.Fields.{has_id, is_bext, is_info, body_in}
 use Rattle.wave_model.specs.Edited.{is_carrier, is_kind, block_size, parts_of}
-
--- the first test that holds
-abbrev pub first : List (Bool × Why) → Option Why
-first [] = None
-first (t ∷ ts) = if t.0 then Some t.1 else first ts
-
--- the first of two refusals
-abbrev pub or_else : Option Why → Option Why → Option Why
-or_else None b = b
-or_else (Some w) b = Some w
 
 -- ---- the form
 
@@ -69,13 +60,6 @@ see s c = record {
   sounds = s.sounds + length (body_in is_data c);
   bexts = s.bexts + length (body_in is_bext c);
 }
-
--- whether chunks were read to the end
-abbrev pub ended : Stop → Bool
-ended ends = true
-ended bad_header = false
-ended passes = false
-ended out_of_turns = false
 
 -- the tests of the chunk at a place
 abbrev pub chunk_tests : ℕ → Seen → Chunk → List (Bool × Why)

@@ -9,7 +9,7 @@ use Rattle.part_tree.specs.declared.plan.Plan.{Plan}
 use Rattle.part_tree.specs.declared.plan.Plan.TheVariants.{InPlace, Rewrite}
 use Rattle.field_model.specs.Update.{raw_items}
 use Rattle.container_model.proofs.Codec.{IsBytes}
-use Rattle.carrier_model.specs.Large.{Size, limited, is_above, first_above}
+use Rattle.part_tree.specs.Large.{Size, limited, is_above, first_above}
 use Rattle.carrier_model.specs.Room.{units_fit}
 use Rattle.part_tree.specs.Patches.{all_bytes}
 use Rattle.part_tree.specs.Plans.{CanRun}
@@ -102,13 +102,13 @@ module _ (b : List ℕ) (e : List EditItem) (bytes : IsBytes b) (sup : Supported
       → (p : Plan) → CanRun p → Units.IsPlanOf u.fits f.len new (flat_map patch_of (framed f n u.cuts.items)) p → IsForm b e p
   form_told n new sum is long small (InPlace old m qs) can h =
       let ps : qs ≡ patches b e = h.3 ∙ patches_told b e bytes sup f fr u comes st n sum is h.0 in
-      let bytes_few : all_bytes (patches b e) ≤ 2 ^ 24 = omega (arith, can.small, ap all_bytes ps) in (
+      let bytes_few : all_bytes (patches b e) ≤ 2 ^ 24 = omega (arith, can.rules.small, ap all_bytes ps) in (
         both_true (units_fit (ends_file (wave_of b)) (pieces_of (wave_of b) (raw_items (fields b) e))) (leb (all_bytes (patches b e)) (2 ^ 24)) (sym (fits_are b e bytes sup f fr u comes st) ∙ h.0) (le-leb (all_bytes (patches b e)) (2 ^ 24) bytes_few),
         h.1 ∙ fr.len,
         h.2 ∙ long,
         ps,
       )
-  form_told n new sum is long small (Rewrite m segments) can h = ((λ room. by room h.0), h.1 ∙ long)
+  form_told n new sum is long small (Rewrite m moves segments) can h = ((λ room. by room h.0), h.1 ∙ long)
     where
       by : Room b e → (u.fits ≡ false) ⊎ IsTooMuch (flat_map patch_of (framed f n u.cuts.items)) → ⊥
       by room (inl unfit) =

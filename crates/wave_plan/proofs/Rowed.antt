@@ -15,8 +15,9 @@ use Rattle.wave_model.specs.Wave.{wave_of, cells_of}
 use Rattle.wave_model.specs.Fields.{fields, is_info}
 use Rattle.wave_model.specs.Carry.{steps}
 use Rattle.wave_model.specs.Edited.{Supported}
-use Rattle.wave_model.specs.New.{is_nil, ends_file, children_at}
-use Rattle.wave_model.proofs.Steps.{was_carried}
+use Rattle.wave_model.specs.New.{ends_file, children_at}
+use Rattle.container_model.specs.Items.{is_nil}
+use Rattle.carrier_model.proofs.Steps.{was_carried}
 use Rattle.wave_model.proofs.Cells.{was_cells}
 use Rattle.unit_plan.specs.declared.cut.CutAt.{CutAt}
 use Rattle.unit_plan.specs.declared.place.Place.{Place}

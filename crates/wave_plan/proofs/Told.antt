@@ -24,9 +24,11 @@ use Rattle.container_model.specs.Ds64.{le32, le64}
 use Rattle.wave_model.specs.Fields.{fields}
 use Rattle.wave_model.specs.Carry.{steps}
 use Rattle.wave_model.specs.Edited.{Supported, parts, parts_of}
-use Rattle.wave_model.specs.New.{is_nil, ends_file, fill_of, pieces_of, new_children, new_size, new_pad, sized_ds64, new_wave, new_file, children_at, pad_cut, edit_cuts, cuts_of, with_size}
-use Rattle.wave_model.specs.Room.{size_patch, patches_in}
-use Rattle.wave_model.proofs.Steps.{was_carried}
+use Rattle.wave_model.specs.New.{ends_file, fill_of, pieces_of, new_children, new_size, sized_ds64, new_wave, new_file, children_at, edit_cuts, cuts_of}
+use Rattle.carrier_model.specs.RiffForm.{new_pad, pad_cut, with_size, size_patch}
+use Rattle.container_model.specs.Items.{is_nil}
+use Rattle.wave_model.specs.Room.{patches_in}
+use Rattle.carrier_model.proofs.Steps.{was_carried}
 use Rattle.wave_model.proofs.Cells.{was_cells}
 use Rattle.wave_model.proofs.Ds64.{HasDs64}
 use Rattle.wave_model.proofs.Form.{behind_body, has_ds64, inner_len}

@@ -5,14 +5,17 @@ use Rattle.std.specs.List.{AllByRecursion}
 use Rattle.part_tree.specs.declared.field.EditItem.{EditItem}
 use Rattle.part_tree.specs.declared.plan.Plan.{Plan}
 use Rattle.part_tree.specs.declared.plan.Plan.TheVariants.{InPlace, Rewrite}
+use Rattle.field_model.specs.KindReads as planned
 use Rattle.field_model.specs.Update.{raw_items}
 use Rattle.container_model.specs.Chunk.{Chunk}
 use Rattle.container_model.specs.Units.{Cell}
-use Rattle.carrier_model.specs.Large.{Size, limited, first_above}
+use Rattle.part_tree.specs.Large.{Size, limited, first_above}
 use Rattle.part_tree.specs.Plans.{Belongs, applied}
+use Rattle.wave_model.specs.Kind.{narrow_kind}
 use Rattle.wave_model.specs.Wave.{wave_of, cells_of}
 use Rattle.wave_model.specs.Fields.{is_info, bodies, fields}
-use Rattle.wave_model.specs.Carry.{steps, carried}
+use Rattle.wave_model.specs.Carry.{steps}
+use Rattle.carrier_model.specs.Steps.{carried}
 use Rattle.wave_model.specs.Edited.{parts_of}
 use Rattle.wave_model.specs.New.{ends_file, new_children, children_at, new_file}
 use Rattle.wave_model.specs.Large.{most_by, all_sizes, too_large}
@@ -20,8 +23,8 @@ use Rattle.wave_model.specs.Room.{Room, patches}
 use Rattle.unit_plan.specs.declared.row.UnitCuts.{UnitCuts}
 use Rattle.unit_plan.specs.Rows.{cells_outcome}
 use Rattle.unit_plan.specs.Cuts.{FitsIn, IsExact, SpansAscend, outcome_in}
-use Rattle.wave_plan.specs.declared.fault.PlanFault.{PlanFault}
-use Rattle.wave_plan.specs.declared.fault.PlanFault.TheVariants.{TooLarge, Depot, Memory}
+use Rattle.part_tree.specs.declared.plan.PlanFault.{PlanFault}
+use Rattle.part_tree.specs.declared.plan.PlanFault.TheVariants.{TooLarge, Depot, Memory}
 use Rattle.wave_plan.specs.declared.frame.Frame.{Frame}
 use Rattle.wave_plan.specs.declared.plan.Passed.{Passed}
 use Rattle.wave_plan.specs.Frame.{IsRound}
@@ -74,19 +77,12 @@ passed (Some p) = Some (limited p.limit p.size)
 
 -- In place exactly where the edit has room, and then with its patches; else a new file.
 abbrev pub IsForm : List ℕ → List EditItem → Plan → Type 0
-IsForm b e (InPlace old new ps) = Room b e × (old ≡ length b) × (new ≡ length (new_file b e)) × (ps ≡ patches b e)
-IsForm b e (Rewrite new segments) = (Room b e → ⊥) × (new ≡ length (new_file b e))
+IsForm b e p = planned.IsForm narrow_kind b e p
 
 -- A plan of an edit of a file that isn't too large, which makes the new file.
-pub record IsPlanOf (b : List ℕ) (e : List EditItem) (p : Plan) : Type 0 where
-  pub fits : too_large b e ≡ None
-  pub makes : applied p b ≡ new_file b e
-  pub form : IsForm b e p
-  pub belongs : Belongs p b
+abbrev pub IsPlanOf : List ℕ → List EditItem → Plan → Type 0
+IsPlanOf b e p = planned.IsPlanOf narrow_kind b e p
 
 -- the plan of an edit, or the first size that is too large
 abbrev pub PlansEdit : List ℕ → List EditItem → Result Plan PlanFault → Type 0
-PlansEdit b e (Ok p) = IsPlanOf b e p
-PlansEdit b e (Err (TooLarge size limit)) = too_large b e ≡ Some (limited limit size)
-PlansEdit b e (Err Depot) = Unit {0}
-PlansEdit b e (Err Memory) = Unit {0}
+PlansEdit b e r = planned.PlansKind narrow_kind b e r

@@ -2,7 +2,6 @@
 //! what is too large is told. It doesn't know what an edit makes of a chunk.
 #![tactic(auto)]
 
-mod fault;
 mod frame;
 mod framed;
 mod plan;
@@ -10,7 +9,6 @@ mod row;
 #[cfg(test)]
 mod tests;
 
-pub use fault::PlanFault;
 pub use frame::{FormAt, Frame, read_frame};
 pub use plan::{Passed, plan_units};
 pub use row::plan_row;

@@ -2,17 +2,16 @@
 ghost use Rattle.std.specs.Prelude.{◌≡◌, ◌≤◌, ◌<◌, ◌+◌, ◌-◌, ◌^◌, ◌∷◌, true, ℕ, List, IfOk, length, if◌then◌else◌};
 ghost use Rattle.me_bytes.specs.Bytes.{IsBytes};
 ghost use Rattle.part_tree.specs.declared.field.EditItem.{EditItem};
-ghost use Rattle.carrier_model.specs.Large.{first_above, limited};
+ghost use Rattle.part_tree.specs.Large.{first_above, limited};
 ghost use Rattle.part_tree.specs.Plans.{Belongs, CanRun};
 ghost use Rattle.unit_plan.specs.Sized.{spliced_len};
 ghost use Rattle.wave_model.specs.Edited.{Supported};
 ghost use Rattle.wave_plan.specs.Frame.{IsFrame};
 ghost use Rattle.wave_plan.specs.Planned.{ComesTo, IsListed, PlansEdit, StandsIn, passed, sizes_by};
 
-use crate::fault::PlanFault;
 use crate::frame::Frame;
 use crate::framed::framed;
-use part_tree::Plan;
+use part_tree::{Plan, PlanFault};
 use std::alloc::Global;
 use unit_plan::{UnitCuts, new_len, plan_of};
 

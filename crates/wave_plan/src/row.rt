@@ -13,11 +13,10 @@ ghost use Rattle.wave_model.specs.New.{children_at};
 ghost use Rattle.wave_plan.specs.Frame.{IsFormOf, IsSoundForm};
 ghost use Rattle.wave_plan.specs.Planned.{IsListed, PlansEdit, edited_cells, part_count};
 
-use crate::fault::PlanFault;
 use crate::frame::{FormAt, read_frame};
 use crate::plan::plan_units;
 use me_disk::Depot;
-use part_tree::Plan;
+use part_tree::{Plan, PlanFault};
 use std::alloc::Global;
 use unit_plan::{Place, unit_cuts};
 

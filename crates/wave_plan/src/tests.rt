@@ -2,9 +2,9 @@
 ghost use Rattle.std.specs.Prelude.{◌≡◌, IfOk};
 ghost use Rattle.unit_plan.specs.Places.{Follow};
 
-use crate::{FormAt, PlanFault, plan_row};
+use crate::{FormAt, plan_row};
 use me_disk::{MemoryDepot, Room};
-use part_tree::{Bytes, NoMemory, Plan};
+use part_tree::{Bytes, NoMemory, Plan, PlanFault};
 use std::alloc::{AllocError, Global};
 use std::test::Fail;
 use unit_plan::{Place, What};
@@ -96,7 +96,11 @@ fn plans(rt: HostRuntime) -> Result<(), Fail> {
     let first = [sevens(alloc, 12, 610, 1)?, stays(12, 36), stays(36, 48)];
     match planned(alloc, &first)?? {
         Plan::InPlace { .. } => return Err(Fail::from(AllocError)),
-        Plan::Rewrite { new_len, segments } => {
+        Plan::Rewrite {
+            new_len,
+            segments,
+            ..
+        } => {
             assert_eq!(rt; new_len, 658);
             assert_eq!(rt; segments.as_slice().len(), 5);
         }

@@ -1,5 +1,5 @@
 use Rattle.std.specs.Prelude.{not}
-use Rattle.avi_model.specs.Index.{is_super}
+use Rattle.opendml_index.specs.Index.{is_super}
 use Rattle.avi_model.proofs.Map.{parts_told, essence_told, tables_told, olds_told}
 use Rattle.avi_model.proofs.what_is_told.Goals as goal
 

@@ -1,8 +1,7 @@
 use Rattle.std.proofs.Common.{arith, ap, sym, ◌≡◌, ◌+◌, ◌∙◌, ℕ, List, take, drop}
 use Rattle.std.specs.Int.{w16, from_be_bytes}
 use Rattle.std.proofs.lemmas.List.{drop-drop}
-use Rattle.part_tree.specs.declared.field.Value.{Value}
-use Rattle.mov_model.specs.User.{text_language}
+use Rattle.qt_text.specs.User.{text_language}
 use Rattle.qt_text.proofs.read_text.Goals as goal
 
 pub returns : goal.returns

@@ -1,4 +1,4 @@
-use Rattle.std.proofs.Common.{arith, ◌≤◌, ◌+◌, length}
+use Rattle.std.proofs.Common.{arith}
 use Rattle.qt_text.proofs.Texts.{texts_step}
 use Rattle.qt_text.proofs.read_user.Goals as goal
 

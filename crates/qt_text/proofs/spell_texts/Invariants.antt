@@ -1,6 +1,6 @@
 use Rattle.std.proofs.Common.{◌≡◌, ◌++◌}
 use Rattle.std.specs.List.{flat_map}
-use Rattle.mov_model.specs.User.{text_bytes}
+use Rattle.qt_text.specs.User.{text_bytes}
 use Rattle.qt_text.proofs.Texts.{bytes_from}
 use Rattle.qt_text.proofs.spell_texts.Given as goal
 

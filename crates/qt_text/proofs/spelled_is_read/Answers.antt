@@ -1,4 +1,4 @@
-use Rattle.mov_model.proofs.User.{texts_read}
+use Rattle.qt_text.proofs.User.{texts_read}
 use Rattle.qt_text.proofs.Texts.{spelled_texts}
 use Rattle.qt_text.proofs.spelled_is_read.Goals as goal
 

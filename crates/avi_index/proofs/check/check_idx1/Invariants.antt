@@ -1,10 +1,8 @@
-use Rattle.std.proofs.Common.{◌≡◌, ◌≤◌, ◌/◌, ℕ, List, map}
+use Rattle.std.proofs.Common.{◌≤◌, ◌/◌, ℕ, List}
 use Rattle.me_disk.specs.Holds.{Holds}
 use Rattle.me_disk.specs.Steps.{ReadsOnly}
 use Rattle.container_model.specs.Written.{slice}
-use Rattle.avi_model.specs.Index.{Table}
-use Rattle.avi_model.specs.Map.{table_span}
-use Rattle.avi_index.specs.Windows.{IsWindow}
+use Rattle.me_disk.specs.Windows.{IsWindow}
 use Rattle.avi_index.specs.Checks.{model_base}
 use Rattle.avi_index.proofs.Checks.{IsLeft}
 use Rattle.avi_index.proofs.check.check_idx1.Given as goal
@@ -15,5 +13,5 @@ invariant-entries g l = record {
   window : IsWindow (g.D.Depot.disk l.depot) l.window;
   reads : ReadsOnly (g.D.Depot.disk l.fn.depot) (g.D.Depot.disk l.depot);
   few : l.counted ≤ l.k;
-  left : (b : List ℕ) (ts : List Table) → Holds (g.D.Depot.disk l.fn.depot) b → map table_span ts ≡ l.indexes → IsLeft (model_base l.base) l.movi ts (l.idx.len / 16) l.k l.counted (slice b l.idx.at l.idx.len);
+  left : (b : List ℕ) → Holds (g.D.Depot.disk l.fn.depot) b → IsLeft (model_base l.base) l.movi l.indexes (l.idx.len / 16) l.k l.counted (slice b l.idx.at l.idx.len);
 }

@@ -1,4 +1,4 @@
-use Rattle.std.proofs.Common.{◌≡◌, ◌∙◌, ◌*◌, ◌+◌, ℕ, List, sym, subst, arith}
+use Rattle.std.proofs.Common.{◌∙◌, ◌*◌, ℕ, List, sym, subst, arith}
 use Rattle.container_model.proofs.Written.{slice_slice}
 use Rattle.avi_index.specs.Entries.{IsEntry}
 use Rattle.avi_index.proofs.entry.read_entry.Goals as goal

@@ -5,6 +5,7 @@ use Rattle.container_model.specs.Chunk.{riff, spell}
 use Rattle.me_disk.proofs.Runs.{ReadsOnly-trans}
 use Rattle.me_disk.proofs.Holds.{holds_on}
 use Rattle.riff_form.specs.declared.StepFault.TheVariants.{Truncated}
+use Rattle.riff_form.proofs.Windows.{window_stays}
 use Rattle.riff_form.specs.Walk.{chunk_in, row, InOrder, Stepped, Stuck}
 use Rattle.avi_walk.specs.Walk.{Took, Takes, role_of}
 use Rattle.avi_walk.proofs.Left.{left_more, take_fails, left_stuck, left_end}
@@ -47,6 +48,7 @@ chunks-preserved g c =
     record {
       end = c.step.ensures.end ∙ before.end;
       few = c.in-Ok.ensures.few;
+      window = window_stays (g.D.Depot.disk c.step.new.depot) (g.D.Depot.disk c.take_chunk.new.depot) c.step.new.self.window c.take_chunk.ensures.reads c.step.ensures.window;
       reads = ReadsOnly-trans _ _ _ (ReadsOnly-trans _ _ _ before.reads c.step.ensures.reads) c.take_chunk.ensures.reads;
       left = λ b holds.
           let this = chunk_in b riff k in

@@ -1,11 +1,9 @@
-use Rattle.std.proofs.Common.{◌≡◌, ℕ, List, rules, subst, sym}
-use Rattle.edit_journal.specs.Journal.{Journal}
+use Rattle.std.proofs.Common.{◌≡◌, ◌∙◌, rules}
 use Rattle.crash_rows.specs.declared.bytes.TheConstants.{JOURNAL}
-use Rattle.crash_rows.specs.Worked.{patches}
 use Rattle.crash_rows.proofs.Works.{journal_is}
 use Rattle.crash_rows.proofs.bytes.journal_bytes.Goals as goal
 
 pub returns : goal.returns
 returns c =
     let items : c.in_ok-to_vec.field-0.items ≡ JOURNAL = search rules in
-    subst (λ (b : List ℕ). Journal b 48 72 patches) (sym items) journal_is
+    items ∙ journal_is

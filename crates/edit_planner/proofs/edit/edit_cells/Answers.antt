@@ -2,7 +2,7 @@ use Rattle.std.proofs.Common.{◌∙◌, refl, ap, sym, List, ℕ}
 use Rattle.std.specs.List.{flat_map}
 use Rattle.container_model.specs.Units.{Cell, live}
 use Rattle.carrier_model.specs.Cells.{acted_cells}
-use Rattle.carrier_model.specs.Large.{first_above}
+use Rattle.part_tree.specs.Large.{first_above}
 use Rattle.bext_fields.specs.Change.{raw_items_of}
 use Rattle.wave_model.specs.Carry.{bext_act}
 use Rattle.edit_planner.specs.Lists.{lengths}

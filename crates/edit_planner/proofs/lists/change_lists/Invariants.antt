@@ -1,5 +1,5 @@
 use Rattle.std.proofs.Common.{◌≡◌, ◌≤◌, ◌+◌, ◌++◌, take, drop, length}
-use Rattle.carrier_model.specs.Large.{first_above}
+use Rattle.part_tree.specs.Large.{first_above}
 use Rattle.edit_planner.specs.Cells.{AreReadable}
 use Rattle.edit_planner.specs.Row.{changed_row, count_row, is_list}
 use Rattle.edit_planner.specs.Lists.{list_edited, sizes_in}

@@ -2,7 +2,7 @@ use Rattle.std.proofs.Common.{ap, arith, sym, ◌∙◌, ◌≡◌, ◌^◌, ℕ
 use Rattle.std.specs.Prelude.{Some}
 use Rattle.me_disk.proofs.Holds.{holds_on}
 use Rattle.part_tree.specs.Fields.{values}
-use Rattle.carrier_model.specs.Large.{first_above, limited}
+use Rattle.part_tree.specs.Large.{first_above, limited}
 use Rattle.bext_fields.specs.Change.{raw_items_of}
 use Rattle.edit_planner.specs.Places.{list_sizes}
 use Rattle.edit_planner.proofs.Ready.{are_fine, holds_back, is_listed, items_are, list_large, shapes_are}

@@ -3,10 +3,11 @@ use Rattle.std.specs.Prelude.{Some, None, ◌^◌}
 use Rattle.std.specs.List.{flat_map}
 use Rattle.container_model.specs.Units.{live}
 use Rattle.wave_model.specs.Fields.{bodies, is_info}
-use Rattle.wave_model.specs.Carry.{carried, steps}
+use Rattle.wave_model.specs.Carry.{steps}
+use Rattle.carrier_model.specs.Steps.{carried}
 use Rattle.edit_planner.specs.Lists.{lengths}
 use Rattle.part_tree.specs.declared.part.Part.{Part}
-use Rattle.carrier_model.specs.Large.{first_above, limited}
+use Rattle.part_tree.specs.Large.{first_above, limited}
 use Rattle.unit_plan.specs.declared.place.Place.{Place}
 use Rattle.unit_plan.specs.Places.{Follow}
 use Rattle.bext_fields.specs.Change.{raw_items_of}

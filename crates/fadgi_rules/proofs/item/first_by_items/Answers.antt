@@ -8,4 +8,4 @@ pub returns : goal.returns
 returns c =
     let f = values c.args.fields.now in
     let none : c.loop-i.i ≡ 0 = omega (arith, c.loop-i-test.false) in
-    c.loop-i.invariant ∙ ap (λ (k : ℕ). items_broken c.args.kind f (drop k c.args.items.now)) none ∙ items_are_broken c.args.kind f c.args.items.now
+    c.loop-i.invariant ∙ ap (λ (k : ℕ). items_broken c.args.kind c.args.streams f (drop k c.args.items.now)) none ∙ items_are_broken c.args.kind c.args.streams f c.args.items.now

@@ -5,4 +5,4 @@ use Rattle.fadgi_rules.proofs.item.first_by_items.Given as goal
 
 -- the first of the items from here on
 abbrev pub invariant-loop-i : goal.invariant-loop-i
-invariant-loop-i l = l.first ≡ items_broken l.kind (values l.fields) (drop l.i l.items)
+invariant-loop-i l = l.first ≡ items_broken l.kind l.streams (values l.fields) (drop l.i l.items)

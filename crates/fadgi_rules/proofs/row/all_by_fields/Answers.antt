@@ -19,9 +19,9 @@ loop-rule-preserved c =
     ∙ ap (λ (bs : List Broken). c.loop-rule.found.items ++ bs) (sym (rules_next FIELD_RULES k row.History c.args.kind f [] c.args.rules c.loop-rule-test.true)) ∙ c.loop-rule.invariant
 
 pub returns : goal.returns
-returns c =
+returns c = λ streams.
     let f = values c.args.fields.now in
     let k = c.loop-rule.rule-index in
     sym (append-nil c.loop-rule.found.items)
     ∙ sym (ap (λ (bs : List Broken). c.loop-rule.found.items ++ bs) (rules_over FIELD_RULES k c.args.kind f [] c.args.rules (omega (arith, c.loop-rule-test.false))))
-    ∙ c.loop-rule.invariant ∙ sym (fields_find c.args.kind f [] c.args.rules (empty_fine c.args.kind f))
+    ∙ c.loop-rule.invariant ∙ sym (fields_find c.args.kind streams f [] c.args.rules (empty_fine c.args.kind streams f))

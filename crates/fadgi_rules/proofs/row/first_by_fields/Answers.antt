@@ -14,7 +14,7 @@ returns-in-Some c =
     let k = c.loop-rule.rule-index in
     let here : first_found (row_findings (get_or FIELD_RULES k row.History) c.args.kind f e c.args.rules) ≡ Some c.in-Some.broken = sym c.first_of_row.ensures ∙ c.in-Some.is in
     sym (first_here FIELD_RULES k row.History c.args.kind f e c.args.rules c.in-Some.broken c.loop-rule-test.true here)
-    ∙ c.loop-rule.invariant ∙ sym (ap first_found (fields_find c.args.kind f e c.args.rules c.requires.fine))
+    ∙ c.loop-rule.invariant ∙ sym (ap first_found (fields_find c.args.kind c.args.streams f e c.args.rules c.requires.fine))
 
 pub loop-rule-preserved : goal.loop-rule-preserved
 loop-rule-preserved c =
@@ -30,4 +30,4 @@ returns c =
     let e = c.args.items.now in
     let k = c.loop-rule.rule-index in
     sym (ap first_found (rules_over FIELD_RULES k c.args.kind f e c.args.rules (omega (arith, c.loop-rule-test.false))))
-    ∙ c.loop-rule.invariant ∙ sym (ap first_found (fields_find c.args.kind f e c.args.rules c.requires.fine))
+    ∙ c.loop-rule.invariant ∙ sym (ap first_found (fields_find c.args.kind c.args.streams f e c.args.rules c.requires.fine))

@@ -3,16 +3,14 @@ use Rattle.std.specs.Prelude.{slice_get}
 use Rattle.std.proofs.lemmas.Option.{slice_get_within}
 use Rattle.part_tree.specs.Fields.{names, values}
 use Rattle.me_report.specs.Report.{field_lines}
-use Rattle.me_report.proofs.Few.{few_names}
 use Rattle.me_report.proofs.Rest.{next_lines, last_lines}
 use Rattle.me_report.proofs.show.put_fields.Goals as goal
 
 pub overflow_add-k : goal.overflow_add-k
 overflow_add-k c =
-    let few = few_names c.args.fields.now c.name_at.ensures.order in
     let at : slice_get (names c.args.fields.now) c.names.k ≡ Some c.in-Some.name.now = sym c.in-Some.ensures.name in
     let inside = slice_get_within (names c.args.fields.now) c.names.k c.in-Some.name.now at in
-    search (rules, few, inside)
+    omega (arith, c.name_at.ensures.few, inside)
 
 pub names-smaller : goal.names-smaller
 names-smaller c =

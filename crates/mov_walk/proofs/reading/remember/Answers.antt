@@ -1,5 +1,5 @@
 use Rattle.std.proofs.Common.{rules}
-use Rattle.mov_walk.proofs.Kept.{Grown, kept}
+use Rattle.mov_walk.proofs.Kept.{kept}
 use Rattle.mov_walk.proofs.reading.remember.Goals as goal
 
 pub returns-clause-remembers : goal.returns-clause-remembers

@@ -1,5 +1,5 @@
 use Rattle.std.proofs.Common.{◌≡◌, drop, map}
-use Rattle.mov_model.specs.Atoms.{is_listed}
+use Rattle.container_model.specs.Atoms.{is_listed}
 use Rattle.mov_walk.proofs.reading.was_met.Given as goal
 
 -- the name is among those that are left exactly where it is among all

@@ -1,7 +1,7 @@
 use Rattle.std.proofs.Common.{refl, ◌≡◌, ◌∙◌, sym, ap, arith, suc, ◌+◌, false}
 use Rattle.part_tree.specs.declared.why.Why.TheVariants.{UnknownKind}
 use Rattle.std.proofs.lemmas.List.{drop_all}
-use Rattle.mov_model.specs.Why.{first}
+use Rattle.container_model.specs.Tests.{first}
 use Rattle.mov_walk.proofs.Firsts.{first_at}
 use Rattle.mov_walk.proofs.refusals.first_of.Goals as goal
 

@@ -1,4 +1,4 @@
-use Rattle.std.proofs.Common.{arith, ◌≡◌, ◌∙◌, ◌*◌, ◌+◌, ap, ltb, ℕ}
+use Rattle.std.proofs.Common.{arith, ◌∙◌}
 use Rattle.mov_walk.proofs.Heads.{rows_known}
 use Rattle.mov_walk.proofs.tables.lacks_rows.Goals as goal
 

@@ -1,11 +1,11 @@
-use Rattle.std.proofs.Common.{arith, refl, sym, ap, ◌≡◌, ◌∙◌, ◌+◌, ◌-◌, ◌<◌, ◌≤◌, ℕ, List, length, drop, Bool}
+use Rattle.std.proofs.Common.{arith, refl, sym, ap, ◌≡◌, ◌∙◌, ◌+◌, ◌-◌, ◌≤◌, ℕ, List, length}
 use Rattle.std.specs.Prelude.{◌&&◌, ◌%◌, nat_eq}
 use Rattle.me_disk.proofs.Holds.{holds_on}
 use Rattle.me_disk.proofs.Runs.{ReadsOnly-trans}
 use Rattle.container_model.specs.Windows.{window}
 use Rattle.container_model.specs.Written.{slice}
 use Rattle.container_model.proofs.Windows.{length-window}
-use Rattle.mov_model.specs.Tables.{entries_local, entries_whole}
+use Rattle.sample_tables.specs.Tables.{entries_local, entries_whole}
 use Rattle.mov_walk.proofs.Heads.{entries_at, flags_there, local_step, number_known, reference_short, size_there, whole_cut, whole_past, whole_small, whole_step, window_behind}
 use Rattle.mov_walk.proofs.tables.read_references.Goals as goal
 

@@ -1,11 +1,11 @@
-use Rattle.std.proofs.Common.{◌≡◌, ◌≤◌, ◌+◌, ◌-◌, ℕ, List, take, drop, length}
+use Rattle.std.proofs.Common.{◌≡◌, ◌≤◌, ◌+◌, ◌-◌, ℕ, List, take, drop}
 use Rattle.std.specs.Prelude.{◌&&◌}
 use Rattle.std.specs.Int.{w32, from_be_bytes}
 use Rattle.me_disk.specs.Steps.{ReadsOnly}
 use Rattle.me_disk.specs.Holds.{Holds}
 use Rattle.container_model.specs.Windows.{window}
 use Rattle.container_model.specs.Written.{slice}
-use Rattle.mov_model.specs.Tables.{entries_local, entries_whole}
+use Rattle.sample_tables.specs.Tables.{entries_local, entries_whole}
 use Rattle.mov_walk.proofs.tables.read_references.Given as goal
 
 -- the entries so far are whole, and those that are left say the rest

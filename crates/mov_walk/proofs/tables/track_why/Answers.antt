@@ -1,6 +1,6 @@
-use Rattle.std.proofs.Common.{sym, subst, ◌≡◌, map}
+use Rattle.std.proofs.Common.{sym, subst, map}
 use Rattle.container_model.specs.Written.{slice}
-use Rattle.mov_model.specs.Atoms.{atom}
+use Rattle.container_model.specs.Atoms.{atom}
 use Rattle.qt_atoms.specs.Walk.{atom_in}
 use Rattle.mov_walk.specs.Tables.{AreReferences}
 use Rattle.mov_walk.specs.declared.tables.References.TheVariants.{Short, External, Local}

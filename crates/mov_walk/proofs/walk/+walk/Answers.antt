@@ -8,7 +8,7 @@ use Rattle.container_model.specs.Walk.{Step, chunk_at, end_at, walk}
 use Rattle.container_model.specs.Windows.{window}
 use Rattle.container_model.proofs.Windows.{length_slice}
 use Rattle.mov_model.specs.Atoms.{Place, format}
-use Rattle.qt_atoms.specs.Walk.{InOrder, Stepped, StuckThere, atom_in, level_of, row}
+use Rattle.qt_atoms.specs.Walk.{InOrder, Stepped, StuckThere, atom_in, level_of}
 use Rattle.qt_atoms.specs.declared.header.Parent.{Parent}
 use Rattle.qt_atoms.specs.declared.walker.AtomFault.TheVariants.{SizeSmall, Truncated}
 use Rattle.part_tree.specs.declared.why.ReadFault.TheVariants as fault

@@ -1,7 +1,6 @@
-use Rattle.std.proofs.Common.{arith, sym, ◌≡◌, ◌∙◌, None}
+use Rattle.std.proofs.Common.{arith, sym, ◌∙◌}
 use Rattle.container_model.specs.Walk.{chunk_at}
 use Rattle.container_model.proofs.Windows.{length_slice}
-use Rattle.mov_model.specs.Why.{first, step_tests}
 use Rattle.qt_atoms.specs.Walk.{atom_in}
 use Rattle.mov_walk.specs.Holder.{place_of}
 use Rattle.mov_walk.proofs.Walks.{stands, step_walked}

@@ -1,4 +1,4 @@
-use Rattle.std.proofs.Common.{sym, subst, ◌+◌, List}
+use Rattle.std.proofs.Common.{sym, subst, List}
 use Rattle.container_model.specs.Walk.{Step}
 use Rattle.mov_model.specs.Atoms.{Place}
 use Rattle.mov_walk.specs.Walked.{Walks}

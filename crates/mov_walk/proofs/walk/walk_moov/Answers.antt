@@ -1,4 +1,4 @@
-use Rattle.std.proofs.Common.{arith, refl, sym, ap, subst, ◌≡◌, ◌∙◌, ◌+◌, ◌∷◌, [], ℕ, List, Bool, length}
+use Rattle.std.proofs.Common.{refl, sym, ap, subst, ◌≡◌, ◌∙◌, ◌+◌, ◌∷◌, [], ℕ, List, Bool, length}
 use Rattle.std.specs.Prelude.{◌&&◌, ◌||◌, codes, not}
 use Rattle.std.specs.Str.{bytes_eq}
 use Rattle.std.specs.declared.option.Option.TheVariants.{Some, None}

@@ -1,4 +1,4 @@
-use Rattle.std.proofs.Common.{◌≡◌, ◌∙◌, ◌+◌, ℕ, List, ap, arith}
+use Rattle.std.proofs.Common.{◌∙◌, ◌+◌, ℕ, List, ap, arith}
 use Rattle.container_model.specs.Written.{slice}
 use Rattle.opendml_index.proofs.Places.{room, kind_there, head_found, table_is}
 use Rattle.opendml_index.proofs.check.entries_at.Goals as goal

@@ -1,6 +1,4 @@
 use Rattle.std.proofs.Common.{arith, rules, ap, ◌∙◌, ◌≡◌}
-use Rattle.container_model.specs.Windows.{window}
-use Rattle.riff_form.specs.Walk.{FrontIs}
 use Rattle.riff_form.proofs.Steps.{few_stepped, stepped, stuck}
 use Rattle.riff_form.proofs.Walker.step.Goals as goal
 

@@ -1,7 +1,5 @@
-use Rattle.std.proofs.Common.{arith, rules, ap, ◌∙◌, ◌≡◌, ◌≤◌, sym, subst, length}
-use Rattle.std.specs.declared.option.Option.TheVariants.{Some, None}
-use Rattle.container_model.specs.Chunk.{too_short}
-use Rattle.container_model.specs.Sizes.{Sizes, riff_front}
+use Rattle.std.proofs.Common.{arith, rules, ap, ◌∙◌, ◌≡◌}
+use Rattle.std.specs.declared.option.Option.TheVariants.{Some}
 use Rattle.container_model.specs.Windows.{window}
 use Rattle.riff_form.specs.Walk.{FrontIs}
 use Rattle.riff_form.proofs.Steps.{few_stepped, front_few, stepped, stuck}

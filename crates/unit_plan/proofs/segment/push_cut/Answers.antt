@@ -10,10 +10,10 @@ three old one two new a b c d e f g h = h ∙ ap (λ x. x ++ c) (f ∙ ap (λ x.
     regroup old a b c = simp append_assoc
 
 pub returns-clause-bytes : goal.returns-clause-bytes
-returns-clause-bytes c = λ b.
-    three (flat_map (segment_bytes b) c.args.segments.now.items) (flat_map (segment_bytes b) c.push_copy.new.segments.items) (flat_map (segment_bytes b) c.push_literal.new.segments.items) (flat_map (segment_bytes b) c.push_copy-2.new.segments.items)
+returns-clause-bytes c = λ ms b.
+    three (flat_map (segment_bytes ms b) c.args.segments.now.items) (flat_map (segment_bytes ms b) c.push_copy.new.segments.items) (flat_map (segment_bytes ms b) c.push_literal.new.segments.items) (flat_map (segment_bytes ms b) c.push_copy-2.new.segments.items)
     _ c.args.cut.now.bytes _ c.as_slice.result.now
-    (c.in_ok-push_copy.ensures.bytes b) (c.in_ok-push_literal.ensures.bytes b) c.as_slice.ensures (c.in_ok-push_copy-2.ensures.bytes b)
+    (c.in_ok-push_copy.ensures.bytes ms b) (c.in_ok-push_literal.ensures.bytes ms b) c.as_slice.ensures (c.in_ok-push_copy-2.ensures.bytes ms b)
 
 pub returns-clause-inside : goal.returns-clause-inside
 returns-clause-inside c = λ b inside h.

@@ -1,5 +1,5 @@
 use Rattle.std.proofs.Common.{◌≡◌, drop}
-use Rattle.wave_model.specs.Why.{first}
+use Rattle.container_model.specs.Tests.{first}
 use Rattle.wave_file.proofs.chunk.first_of.Given as goal
 
 abbrev pub invariant-loop-holds : goal.invariant-loop-holds

@@ -6,7 +6,7 @@ use Rattle.container_model.proofs.Windows.{length_slice}
 use Rattle.me_disk.proofs.Holds.{holds_on}
 use Rattle.riff_form.specs.Walk.{chunk_in}
 use Rattle.wave_model.specs.Wave.{form_kind}
-use Rattle.wave_model.specs.Why.{first}
+use Rattle.container_model.specs.Tests.{first}
 use Rattle.wave_file.specs.Map.{role_of, at_front}
 use Rattle.wave_file.specs.Tests.{early_tests}
 use Rattle.wave_file.specs.Reads.{carries, is_ranges, one_if, seen_of}

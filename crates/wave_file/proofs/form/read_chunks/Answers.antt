@@ -4,6 +4,7 @@ use Rattle.std.specs.declared.result.Result.TheVariants.{Err}
 use Rattle.container_model.specs.Chunk.{spell}
 use Rattle.me_disk.proofs.Runs.{ReadsOnly-trans}
 use Rattle.me_disk.proofs.Holds.{holds_on}
+use Rattle.riff_form.proofs.Windows.{window_stays}
 use Rattle.riff_form.specs.Walk.{chunk_in, InOrder}
 use Rattle.wave_model.specs.Wave.{form_kind}
 use Rattle.wave_file.specs.Reads.{Took, Takes, Ends}
@@ -44,6 +45,7 @@ chunks-preserved g c =
       partial = rw moved c.in-Ok-take_chunk.ensures.partial;
       few = omega (arith, few, before.few, c.in-Ok-take_chunk.ensures.more);
       same = c.next_chunk.ensures.same ∙ before.same;
+      window = window_stays (g.D.Depot.disk c.next_chunk.new.depot) (g.D.Depot.disk c.take_chunk.new.depot) c.next_chunk.new.walker.window c.take_chunk.ensures.reads c.next_chunk.ensures.window;
       reads = ReadsOnly-trans _ _ _ (ReadsOnly-trans _ _ _ before.reads c.next_chunk.ensures.reads) c.take_chunk.ensures.reads;
       left = λ b holds form.
           let this = chunk_in b (form_kind c.in-Ok-Some.found.wide) k in

@@ -24,4 +24,4 @@ returns-clause-wave g c = λ b holds front.
     let read = c.in-Ok.ensures.sizes b holds in
     let held = holds_on (g.D.Depot.disk c.args.depot.now) (g.D.Depot.disk c.read_ds.new.depot) b c.read_ds.ensures.reads holds in
     let form : IsForm b c.in-Ok.ds64 c.in-Some.end = form_is b c.args.front c.in-Ok.ds64 c.args.len c.in-Some.end front read.0 (read.1 front.big) (c.requires.whole b holds) c.in-Some.ensures in
-    map_is b c.args.front _ c.in-Ok-read_chunks.all c.in-Ok.ds64 front form (c.in-Ok-read_chunks.ensures.chunks b held form) (c.requires.whole b holds) c.kind_by.ensures c.read_chunks.ensures.same refl refl refl refl
+    map_is b c.args.front _ c.in-Ok-read_chunks.all c.in-Ok.ds64 front form (c.in-Ok-read_chunks.ensures.chunks b held form) (c.requires.whole b holds) refl c.read_chunks.ensures.same refl refl refl refl

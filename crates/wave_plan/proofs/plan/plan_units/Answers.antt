@@ -1,6 +1,6 @@
 use Rattle.std.proofs.Common.{rules, arith, subst, sym, ap, ◌∙◌, ◌≡◌, ◌+◌, List, map, length, cond}
 use Rattle.std.specs.List.{flat_map}
-use Rattle.carrier_model.specs.Large.{limited}
+use Rattle.part_tree.specs.Large.{limited}
 use Rattle.container_model.specs.Splice.{splice}
 use Rattle.wave_model.specs.New.{new_file}
 use Rattle.unit_plan.specs.declared.cut.CutAt.{CutAt}

@@ -1,7 +1,8 @@
 use Rattle.std.proofs.Common.{◌≡◌, false, List, [], refl, arith}
 use Rattle.std.specs.Prelude.{IsTrue}
 use Rattle.file_swap.specs.Steps.{Step}
-use Rattle.file_swap.proofs.Cores.{core_permits, core_leaves, core_failed, core_low, core_sound, core_counts, core_open, core_underway}
+use Rattle.file_swap.specs.declared.machine.Turn.TheVariants.{More}
+use Rattle.file_swap.proofs.Cores.{core_permits, core_leaves, core_failed, core_wrote, core_low, core_sound, core_counts, core_open, core_underway}
 use Rattle.file_swap.proofs.machine.Core.turn.Goals as goal
 
 still : {l : List Step} → (l ≡ [] → IsTrue false) → l ≡ [] → ⊥
@@ -27,6 +28,10 @@ returns-else-is_ended-2-clause-underway g c = λ n.
 
 pub returns-else-is_ended-2-clause-crash : goal.returns-else-is_ended-2-clause-crash
 returns-else-is_ended-2-clause-crash g c = core_leaves c.args.self.now c.requires.1.0 (still c.if-is_ended.ensures.1) g.old (g.D.Depot.disk c.args.depot.now) (g.D.Depot.disk c.step.new.depot) (g.met.D.Depot.lawful c.args.depot.now) (g.met.D.Depot.lawful c.step.new.depot) c.requires.1.1 c.step.result c.step.ensures.does
+
+pub returns-else-is_ended-2-clause-written : goal.returns-else-is_ended-2-clause-written
+returns-else-is_ended-2-clause-written g c = core_wrote c.args.self.now c.requires.1.0 (still c.if-is_ended.ensures.1) g.old (g.D.Depot.disk c.args.depot.now) (g.D.Depot.disk c.step.new.depot) (g.met.D.Depot.lawful c.args.depot.now) (g.met.D.Depot.lawful c.step.new.depot) c.requires.1.1
+    c.in-Ok.field-0 More c.in-Ok.ensures.does
 
 pub returns-else-is_ended-2-clause-sound : goal.returns-else-is_ended-2-clause-sound
 returns-else-is_ended-2-clause-sound g c = core_sound c.args.self.now c.requires.1.0 (still c.if-is_ended.ensures.1) g.old (g.D.Depot.disk c.args.depot.now) (g.D.Depot.disk c.step.new.depot) (g.met.D.Depot.lawful c.args.depot.now) (g.met.D.Depot.lawful c.step.new.depot) c.requires.1.1

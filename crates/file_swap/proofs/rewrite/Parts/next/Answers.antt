@@ -1,9 +1,9 @@
 use Rattle.std.proofs.Common.{rules, ◌≡◌, ◌∷◌, ◌-◌, min, length, sym, subst}
 use Rattle.file_swap.specs.declared.rewrite.Stage.{Stage}
-use Rattle.file_swap.specs.declared.rewrite.Stage.TheVariants.{Append}
+use Rattle.file_swap.specs.declared.rewrite.Stage.TheVariants.{Append, AppendRows}
 use Rattle.file_swap.specs.Steps.{block}
 use Rattle.file_swap.specs.Parts.{literal_at, step_of, left, IsStage}
-use Rattle.file_swap.proofs.Copies.{read_next, put_next}
+use Rattle.file_swap.proofs.Copies.{read_next, rows_next, put_next}
 use Rattle.file_swap.proofs.rewrite.Parts.next.Goals as goal
 
 pub returns-in-Read-clause-left : goal.returns-in-Read-clause-left
@@ -18,3 +18,9 @@ returns-in-Put-clause-left c =
     let e : c.min.result ≡ min block (length (literal_at s c.in-Put.i) - c.in-Put.from) = search rules in
     subst (λ (t : Stage). left s t ≡ step_of s t ∷ left s c.put_more.result) (sym c.in-Put.is)
     (put_next s c.in-Put.i c.in-Put.from c.min.result c.put_more.result (subst (IsStage s) c.in-Put.is c.requires.stage) e c.put_more.ensures.left)
+
+pub returns-in-ReadRows-clause-left : goal.returns-in-ReadRows-clause-left
+returns-in-ReadRows-clause-left c =
+    let s = c.args.self.now in
+    subst (λ (t : Stage). left s t ≡ step_of s t ∷ left s (AppendRows c.in-ReadRows.i c.in-ReadRows.first)) (sym c.in-ReadRows.is)
+    (rows_next s c.in-ReadRows.i c.in-ReadRows.first (subst (IsStage s) c.in-ReadRows.is c.requires.stage))

@@ -1,0 +1,59 @@
+// The kind of a file, and its map.
+ghost use Rattle.std.specs.Prelude.{◌≡◌, ℕ, List, IfOk};
+ghost use Rattle.me_disk.specs.Causes.{Rose};
+ghost use Rattle.me_disk.specs.Holds.{Holds};
+ghost use Rattle.me_disk.specs.Steps.{HasCause, ReadsOnly};
+ghost use Rattle.field_model.specs.KindReads.{ReadsKind};
+ghost use Rattle.edit_planner.specs.Kinds.{kind_at, model_in};
+ghost use Rattle.edit_planner.specs.Kinds as spec;
+ghost use Rattle.edit_planner.specs.Plan.{Maps, SoundMap};
+
+use crate::plans::FileMap;
+use me_disk::{Depot, DepotFault, Slot};
+use part_tree::{Kind, ReadFault, Why, kind_of};
+use std::alloc::Global;
+use wave_file::read_wave;
+
+// The kind of a file, by its first bytes.
+fn read_kind<D: Depot>(depot: &mut D) -> Result<Option<Kind>, DepotFault>
+    ensures kind { (o : List ℕ) → Holds (D.disk depot.old) o → IfOk result (λ k. k ≡ kind_at o) }
+    ensures reads { ReadsOnly (D.disk depot.old) (D.disk depot.new) }
+    ensures cause { HasCause (D.disk depot.old) (D.disk depot.new) result }
+{
+    let len = depot.len(Slot::Main)?;
+    let mut first = [0u8; 12];
+    let known = len.min(12) as usize;
+    depot.read_at(Slot::Main, 0, &mut first[..known])?;
+    Ok(kind_of(&first[..known]))
+}
+
+// Whether a kind isn't built yet.
+fn is_later(kind: Option<Kind>) -> bool
+    ensures { result ≡ spec.is_later kind }
+{
+    match kind {
+        Some(Kind::Avi | Kind::Mov) => true,
+        Some(Kind::Wave | Kind::Rf64 | Kind::Bw64) | None => false,
+    }
+}
+
+/// The map of a file, whatever its kind, or the first reason for which it is refused. The depot is only read. `Depot` only where
+/// the count of the depot's faults rose.
+pub fn read<D: Depot>(alloc: Global, depot: &mut D) -> Result<FileMap, ReadFault>
+    ensures file { (o : List ℕ) → Holds (D.disk depot.old) o → ReadsKind (model_in o) Maps o result }
+    ensures sound { IfOk result (λ map. SoundMap map) }
+    ensures reads { ReadsOnly (D.disk depot.old) (D.disk depot.new) }
+    ensures cause { result ≡ Err ReadFault.Depot → Rose (D.disk depot.old).faults (D.disk depot.new).faults }
+{
+    let kind = match read_kind(depot) {
+        Err(_) => return Err(ReadFault::Depot),
+        Ok(kind) => kind,
+    };
+    if is_later(kind) {
+        return Err(ReadFault::Why(Why::NotBuilt));
+    }
+    match read_wave(alloc, depot) {
+        Err(fault) => Err(fault),
+        Ok(map) => Ok(FileMap::Wave(map)),
+    }
+}

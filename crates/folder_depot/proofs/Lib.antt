@@ -1,0 +1,9 @@
+pub mod Kept
+pub mod Trees
+pub mod Makes
+pub mod Works
+pub mod Syncs
+pub mod Writes
+pub mod Installs
+pub mod Drops
+pub mod Refused

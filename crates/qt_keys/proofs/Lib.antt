@@ -1,0 +1,10 @@
+pub mod Atoms
+pub mod Twins
+pub mod Pieces
+pub mod Whole
+pub mod Spelled
+pub mod Back
+pub mod Again
+pub mod Found
+pub mod Keyed
+pub mod AreBytes

@@ -1,0 +1,4 @@
+pub mod Short
+pub mod Table
+pub mod Read
+pub mod Set
