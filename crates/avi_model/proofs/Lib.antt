@@ -51,3 +51,4 @@ pub mod Merged
 pub mod OneSplice
 pub mod Turns
 pub mod Ordered
+mod Rising

@@ -19,7 +19,7 @@ ghost use Rattle.avi_index.specs.Rows.{Base};
 ghost use Rattle.opendml_index.specs.Checks.{entries_tests};
 ghost use Rattle.avi_model.specs.Index.{indexes, olds, renumbered, spans, table_span};
 ghost use Rattle.opendml_index.specs.Index.{move};
-ghost use Rattle.avi_model.specs.Support.{by_place, parts, Supported};
+ghost use Rattle.avi_model.specs.Support.{by_place, movi_spans, parts, Supported};
 ghost use Rattle.avi_model.specs.Why.{why};
 ghost use Rattle.avi_model.specs.NewFile.{moves};
 ghost use Rattle.avi_model.specs.Splices.{IsOneSplice};
@@ -86,11 +86,12 @@ pub fn forms_are_read_in_turn()
 {}
 
 /// What is tested of the entries of tables, and which are counted, is the same for the index chunks in any order, so for those
-/// by place. In a supported file these ascend.
+/// by place. In a supported file these ascend, and so do the bodies of the movi lists.
 pub fn indexes_are_searched_by_place()
     ensures rows { (base : Base) (movi : Span) (ts : List Table) (k : ℕ) (rs : List (List ℕ)) → old_tests base movi (spans (by_place ts)) k rs ≡ old_tests base movi (spans ts) k rs }
     ensures entries { (movis : List Span) (ts : List Table) (base k : ℕ) (rs : List (List ℕ)) → entries_tests movis (spans (by_place ts)) base k rs ≡ entries_tests movis (spans ts) base k rs }
     ensures based { (b : List ℕ) (ts : List Table) (movi : Span) (rs : List (List ℕ)) → is_based b (spans (by_place ts)) movi rs ≡ is_based b (spans ts) movi rs }
     ensures counted { (base : Base) (movi : Span) (ts : List Table) (r : List ℕ) → counted base movi (spans (by_place ts)) r ≡ counted base movi (spans ts) r }
     ensures ascend { (b : List ℕ) → Supported b → Ascends 0 (spans (by_place (indexes b))) }
+    ensures movis { (b : List ℕ) → IsBytes b → Supported b → Ascends 0 (movi_spans (avi_of b)) }
 {}
