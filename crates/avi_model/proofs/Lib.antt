@@ -52,3 +52,4 @@ pub mod OneSplice
 pub mod Turns
 pub mod Ordered
 mod Rising
+mod Relocated
