@@ -20,7 +20,8 @@ use Rattle.carrier_model.proofs.Info.{made_padded, made_plain, info_rereads, par
 use Rattle.carrier_model.proofs.Lists.{lists_values, lists_end, lists_nodes}
 use Rattle.carrier_model.proofs.Views.{laid_view}
 use Rattle.avi_model.specs.Avi.{Avi, inner, behind as after_form, spell_avi, avi_of}
-use Rattle.avi_model.specs.NewFile.{Items, home as behind_hdrl, cell_by, cell_of, ends_file, new_cells, new_children, laid}
+use Rattle.avi_model.specs.NewFile.{Items, home as behind_hdrl, new_cells, new_children, laid}
+use Rattle.avi_model.specs.Named.{cell_by, cell_of, ends_file}
 use Rattle.carrier_model.specs.RiffForm.{new_pad}
 use Rattle.container_model.specs.Items.{is_nil}
 use Rattle.avi_model.specs.Edited.{info_values}

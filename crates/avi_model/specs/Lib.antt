@@ -1,5 +1,6 @@
 pub mod Avi
 pub mod Index
+pub mod Named
 pub mod Pieces
 pub mod Support
 pub mod Reading
