@@ -52,7 +52,7 @@ makes_lists P good e cs = go (has_carrier info cs)
 
 -- ---- the cells of the form
 
-cells_all : (P : Chunk → Type 0) (cs : List Chunk) → AllByRecursion P cs → AllCells P (map cell_of cs)
+pub cells_all : (P : Chunk → Type 0) (cs : List Chunk) → AllByRecursion P cs → AllCells P (map cell_of cs)
 cells_all P [] h = tt
 cells_all P (c ∷ cs) h = go (is_padding c) (cells_all P cs h.1)
   where
@@ -60,7 +60,7 @@ cells_all P (c ∷ cs) h = go (is_padding c) (cells_all P cs h.1)
     go true g = (h.0, g)
     go false g = (h.0, g)
 
-cells_gaps : (P : Chunk → Type 0) → ((c : Chunk) → is_padding c ≡ true → P c) → (cs : List Chunk) → Gaps P (map cell_of cs)
+pub cells_gaps : (P : Chunk → Type 0) → ((c : Chunk) → is_padding c ≡ true → P c) → (cs : List Chunk) → Gaps P (map cell_of cs)
 cells_gaps P f [] = tt
 cells_gaps P f (c ∷ cs) = go (is_padding c) refl (cells_gaps P f cs)
   where

@@ -53,3 +53,5 @@ pub mod Turns
 pub mod Ordered
 mod Rising
 mod Relocated
+pub mod Respelled
+pub mod Placed

@@ -1,6 +1,7 @@
 pub mod Avi
 pub mod Index
 pub mod Named
+pub mod Heads
 pub mod Pieces
 pub mod Support
 pub mod Reading
