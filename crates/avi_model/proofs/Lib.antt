@@ -55,3 +55,4 @@ mod Rising
 mod Relocated
 pub mod Respelled
 pub mod Placed
+pub mod Streams

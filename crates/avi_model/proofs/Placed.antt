@@ -100,6 +100,9 @@ name_not_padding c e = go (is_padding c) refl
     go false p = refl
     go true p = let no : bytes_eq (codes "JUNK") (codes "strn") ≡ true = subst (λ (x : List ℕ). bytes_eq x (codes "strn") ≡ true) (padding_id c p) e in absurd cc
 
+pub padding_not_name : (c : Chunk) → is_padding c ≡ true → is_name c ≡ false
+padding_not_name c p = ap (λ (x : List ℕ). bytes_eq x (codes "strn")) (padding_id c p)
+
 named_token : (c : Chunk) → is_name c ≡ true → name_token c ≡ mark (codes "strn") ∷ []
 named_token c e =
     ap (λ (b : Bool). cond b [] (cond (is_name c) (mark c.id) (leaf c.form c.id c.body) ∷ [])) (name_not_padding c e) ∙ ap (λ (b : Bool). cond b (mark c.id) (leaf c.form c.id c.body) ∷ []) e

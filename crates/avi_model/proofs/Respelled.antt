@@ -112,26 +112,27 @@ pub all_names : (P : Chunk → Type 0) → ((body : List ℕ) → P (made (codes
 all_names P h [] = tt
 all_names P h (v ∷ vs) = (h v, all_names P h vs)
 
+-- its chunks
+abbrev pub laid_chunks : Bool → List (List ℕ) → Chunk → List Chunk
+laid_chunks ends_too vs c = lay (strl_fill ends_too c) (strl_pieces (made_names vs) c)
+
 module _ (ends_too : Bool) (vs : List (List ℕ)) (c : Chunk) (is : IsList c) where
   abbrev cells : List Cell
   cells = map cell_of (list_run c).chunks
 
-  abbrev pub laid_chunks : List Chunk
-  laid_chunks = lay (strl_fill ends_too c) (strl_pieces (made_names vs) c)
-
-  pub strl_plain : ArePlain laid_chunks
+  pub strl_plain : ArePlain (laid_chunks ends_too vs c)
   strl_plain =
       lay_all IsPlain (strl_fill ends_too c) (record { on_pads = λ c h. record { form_is = h.form_is; id_len = h.id_len }; on_fill = λ last slot k. fill_all IsPlain (λ body. made_plain (codes "JUNK") body refl) (ends_too && ends_list c) last slot k }) shut
       (name_cells (made_names vs) cells) tt (cells_names IsPlain (made_names vs) (all_names IsPlain (λ body. made_plain (codes "strn") body refl) vs) cells (cells_all IsPlain (list_run c).chunks (list_plain c)))
 
-  pub strl_pads : Pads laid_chunks (list_run c).left
+  pub strl_pads : Pads (laid_chunks ends_too vs c) (list_run c).left
   strl_pads =
       lay_pads (strl_fill ends_too c) (λ last slot k. fill_all IsPadded (λ body. made_padded (codes "JUNK") body) (ends_too && ends_list c) last slot k) (list_run c).left shut
       (name_cells (made_names vs) cells) tt
       (pads_names (made_names vs) (all_names IsPadded (λ body. made_padded (codes "strn") body) vs) cells (list_run c).left (cells_pads (list_run c).chunks (list_run c).left (list_pads c is)))
 
   -- what a view that sees neither padding nor pads sees of its chunks
-  pub strl_seen : {X : Type 0} (v : Chunk → List X) → ((d : Chunk) → v (record d { pad = [] }) ≡ v d) → ((d : Chunk) → is_padding d ≡ true → v d ≡ []) → flat_map v laid_chunks ≡ flat_map v (flat_map live (name_cells (made_names vs) cells))
+  pub strl_seen : {X : Type 0} (v : Chunk → List X) → ((d : Chunk) → v (record d { pad = [] }) ≡ v d) → ((d : Chunk) → is_padding d ≡ true → v d ≡ []) → flat_map v (laid_chunks ends_too vs c) ≡ flat_map v (flat_map live (name_cells (made_names vs) cells))
   strl_seen v pads padding =
       laid_view v pads (strl_fill ends_too c) (λ last slot n. fills last slot n) (name_cells (made_names vs) cells)
       (gaps_names (λ d. v d ≡ []) (made_names vs) cells (cells_gaps (λ d. v d ≡ []) padding (list_run c).chunks))
@@ -143,5 +144,5 @@ module _ (ends_too : Bool) (vs : List (List ℕ)) (c : Chunk) (is : IsList c) wh
           go true = refl
           go false = append-nil (v (made (codes "JUNK") (room (length slot - n) slot n))) ∙ padding (made (codes "JUNK") (room (length slot - n) slot n)) refl
 
-  pub strl_run : length (spell_all laid_chunks) < 2 ^ 32 → list_run (strl_named ends_too (made_names vs) c) ≡ record { chunks = laid_chunks; stop = ends; left = (list_run c).left }
-  strl_run lt = list_read c laid_chunks is strl_plain strl_pads lt
+  pub strl_run : length (spell_all (laid_chunks ends_too vs c)) < 2 ^ 32 → list_run (strl_named ends_too (made_names vs) c) ≡ record { chunks = (laid_chunks ends_too vs c); stop = ends; left = (list_run c).left }
+  strl_run lt = list_read c (laid_chunks ends_too vs c) is strl_plain strl_pads lt

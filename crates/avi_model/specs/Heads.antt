@@ -1,9 +1,10 @@
 -- What an edit of names keeps of the lists of streams, in order, and where the names stand in it.
-use Rattle.std.specs.Prelude.{ℕ, suc, List, [], ◌∷◌, ◌++◌, map, Bool, false, codes, if◌then◌else◌}
+use Rattle.std.specs.Prelude.{ℕ, zero, suc, filter, List, [], ◌∷◌, ◌++◌, map, Bool, false, codes, if◌then◌else◌}
 use Rattle.std.specs.List.{flat_map, list_any}
 use Rattle.container_model.specs.Chunk.{Form, Chunk}
 use Rattle.container_model.specs.Deep.{Token, leaf, mark}
 use Rattle.container_model.specs.Items.{has_mark, settled_marks}
+use Rattle.container_model.specs.Stood.{Stood}
 use Rattle.carrier_model.specs.Lists.{Node, list, sign, other}
 use Rattle.carrier_model.specs.Info.{is_padding, list_run, one_of}
 use Rattle.carrier_model.specs.Names.{is_name, heads}
@@ -61,3 +62,15 @@ place_names e n (other form id body ∷ k) = other form id body ∷ place_names 
 -- hdrl with other names
 abbrev pub head_with : Names → Head → Head
 head_with e h = record h { nodes = place_names e 0 h.nodes }
+
+-- ---- the names of streams
+
+-- the bodies of the names in a stream's list
+abbrev pub names_in : Stood → List (List ℕ)
+names_in x = map (λ (c : Chunk). c.body) (filter is_name (list_run x.chunk).chunks)
+
+-- those of the stream of a number, from 0
+abbrev pub nth_names : ℕ → List Stood → List (List ℕ)
+nth_names n [] = []
+nth_names zero (x ∷ xs) = names_in x
+nth_names (suc n) (x ∷ xs) = nth_names n xs
