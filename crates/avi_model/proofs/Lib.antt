@@ -56,3 +56,5 @@ mod Relocated
 pub mod Respelled
 pub mod Placed
 pub mod Streams
+pub mod Blocks
+pub mod StreamsGo

@@ -30,7 +30,7 @@ AreKids cs = AllByRecursion IsKid cs
 
 -- ---- one list of a stream
 
-list_with_plain : (c : Chunk) (cs : List Chunk) → IsPlain c → IsPlain (list_with c cs)
+pub list_with_plain : (c : Chunk) (cs : List Chunk) → IsPlain c → IsPlain (list_with c cs)
 list_with_plain c cs h =
     let b = take 4 c.body ++ (spell_all cs ++ (list_run c).left) in
     record { form_is = respelled_form c b ∙ h.form_is; id_len = ap length (respelled_id c b) ∙ h.id_len }
@@ -67,7 +67,7 @@ none_after (c ∷ cs) left h = absurd (omega (arith, ap length h, length-append 
 
 module _ (e : Names) where
   -- a list that is named, in a short enough hdrl
-  laid_small : (ends_too : Bool) (n : ℕ) (c : Chunk) → IsList c → length (spell (strl_named ends_too (new_names e n) c)) < 2 ^ 32 → length (spell_all (laid_chunks ends_too (names_after e n []) c)) < 2 ^ 32
+  pub laid_small : (ends_too : Bool) (n : ℕ) (c : Chunk) → IsList c → length (spell (strl_named ends_too (new_names e n) c)) < 2 ^ 32 → length (spell_all (laid_chunks ends_too (names_after e n []) c)) < 2 ^ 32
   laid_small ends_too n c is lt =
       let new = strl_named ends_too (new_names e n) c in
       omega (arith, lt, spell_long new, list_length c (laid_chunks ends_too (names_after e n []) c) is)
