@@ -58,3 +58,4 @@ pub mod Placed
 pub mod Streams
 pub mod Blocks
 pub mod StreamsGo
+pub mod Children

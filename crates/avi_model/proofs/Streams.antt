@@ -57,11 +57,11 @@ strl_node ends_too vs c is typed lt =
 
 -- ---- the chunks of hdrl
 
-spell_long : (c : Chunk) → length c.body ≤ length (spell c)
+pub spell_long : (c : Chunk) → length c.body ≤ length (spell c)
 spell_long c = omega (arith, length-append (header_bytes c.form c.id (length c.body)) (c.body ++ c.pad), length-append c.body c.pad)
 
 -- nothing follows a chunk
-none_after : (cs : List Chunk) (left : List ℕ) → spell_all cs ++ left ≡ [] → (cs ≡ []) × (left ≡ [])
+pub none_after : (cs : List Chunk) (left : List ℕ) → spell_all cs ++ left ≡ [] → (cs ≡ []) × (left ≡ [])
 none_after [] left h = (refl, h)
 none_after (c ∷ cs) left h = absurd (omega (arith, ap length h, length-append (spell_all (c ∷ cs)) left, as_many (c ∷ cs)))
 

@@ -184,7 +184,7 @@ module _ (e : Names) where
       (block_both at to next goal (at + length (spell_all (c ∷ cs))) (to + length (spell_all (one ∷ more))) (kid_cuts e (ends_too && is_nil cs) n at c) (flat_map (strl_cuts e) (sites_from e ends_too (counted is_strl n c) next cs)) (kid_block (ends_too && is_nil cs) n at to c h.0) last)
 
   -- the index chunks of the streams' lists
-  abbrev all_in : List Stood → List Stood
+  abbrev pub all_in : List Stood → List Stood
   all_in xs = only is_index (flat_map kids (only is_strl xs))
 
   in_first : (x : Stood) (xs : List Stood) (t : Bool) → is_strl x.chunk ≡ t → all_in (x ∷ xs) ≡ cond t (only is_index (kids x)) [] ++ all_in xs
