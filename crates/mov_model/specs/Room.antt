@@ -2,11 +2,10 @@
 use Rattle.std.specs.Prelude.{ℕ, ◌+◌, ◌-◌, ◌^◌, ◌≡◌, nat_le, nat_lt, ◌==◌, List, [], ◌∷◌, ◌++◌, length, Bool, true, ◌&&◌, ◌||◌, if◌then◌else◌}
 use Rattle.std.specs.Int.{w32, w64, to_be_bytes}
 use Rattle.part_tree.specs.declared.field.EditItem.{EditItem}
-use Rattle.part_tree.specs.declared.field.Value.{Value}
 use Rattle.part_tree.specs.declared.plan.Patch.{Patch}
 use Rattle.part_tree.specs.Patches.{all_bytes}
 use Rattle.container_model.specs.Chunk.{Form, short, long, spell_all}
-use Rattle.container_model.specs.Items.{Item}
+use Rattle.mov_model.specs.Carried.{Changes}
 use Rattle.container_model.specs.Units.{Piece, copied, replaced, unit_bytes}
 use Rattle.carrier_model.specs.Room.{patch, unit_patches}
 use Rattle.mov_model.specs.Movie.{Movie, movie_of}
@@ -38,7 +37,7 @@ abbrev pub moov_patch : Movie → ℕ → List Patch
 moov_patch m n = if n == length m.movie.body then [] else size_patch m.movie.form (length (spell_all m.before)) n
 
 -- by place: the size of moov, then each unit
-abbrev pub patches_of : Movie → List (Item Value) → List Patch
+abbrev pub patches_of : Movie → Changes → List Patch
 patches_of m e = moov_patch m (length (new_movie m e).movie.body) ++ unit_patches (fill (ends_file m e)) (kids_at m e) (whole_pieces m e)
 
 -- the patches of an edit, by place
