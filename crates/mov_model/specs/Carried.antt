@@ -1,9 +1,9 @@
 -- What an edit does to the carriers among the atoms of moov, step by step: the first one is edited, or a new one stands behind the last atom that is no padding (this project's own).
 use Rattle.std.specs.List.{list_any}
-use Rattle.std.specs.Prelude.{Bool, List, None, Option, Some, [], false, suc, true, zero, ℕ, ◌&&◌, ◌∷◌}
+use Rattle.std.specs.Prelude.{Bool, List, None, Option, Some, [], false, suc, true, zero, ℕ, ◌∷◌}
 use Rattle.part_tree.specs.declared.field.Value.{Value}
 use Rattle.container_model.specs.Chunk.{Chunk}
-use Rattle.container_model.specs.Items.{Carrier, Item, edit_carrier, is_nil, put_all}
+use Rattle.container_model.specs.Items.{Carrier, Item, edit_carrier, put_all}
 use Rattle.carrier_model.specs.Cells.{Act, Change, add, become, behind, change, leave, never, nothing}
 use Rattle.carrier_model.specs.Steps.{Step}
 use Rattle.mov_model.specs.Keys.{edit_meta, is_meta, new_meta}
@@ -13,10 +13,6 @@ use Rattle.qt_text.specs.User.{udta, user_items}
 pub record Changes : Type 0 where
   pub users : List (Item Value)
   pub keys : List (Item (List ℕ))
-
--- no item
-abbrev pub is_idle : Changes → Bool
-is_idle e = is_nil e.users && is_nil e.keys
 
 -- the first of some chunks becomes another, and the others stay
 abbrev pub first_becomes : (Chunk → Chunk) → ℕ → Chunk → Change

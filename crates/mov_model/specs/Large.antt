@@ -1,16 +1,17 @@
 -- What is too large: the first of these sizes that passes its limit (this project's own).
-use Rattle.std.specs.Prelude.{Bool, List, None, Option, [], codes, false, if◌then◌else◌, length, map, true, ℕ, ◌++◌, ◌^◌, ◌∷◌}
+use Rattle.std.specs.Prelude.{List, None, Option, [], codes, if◌then◌else◌, length, map, ℕ, ◌++◌, ◌^◌, ◌∷◌}
 use Rattle.std.specs.List.{flat_map, list_any}
 use Rattle.part_tree.specs.declared.field.EditItem.{EditItem}
 use Rattle.part_tree.specs.Large.{Size, limited, first_above}
-use Rattle.mov_model.specs.Edited.{changes}
+use Rattle.field_model.specs.Update.{effective}
+use Rattle.mov_model.specs.Edited.{changes, fields}
 use Rattle.part_tree.specs.declared.field.Value.{Value}
 use Rattle.container_model.specs.Chunk.{Chunk, spell}
 use Rattle.container_model.specs.Items.{Item, edit_carrier, listed, put_all}
 use Rattle.container_model.specs.Rows.{be32, be64}
 use Rattle.container_model.specs.Splice.{shift}
 use Rattle.container_model.specs.Atoms.{is}
-use Rattle.mov_model.specs.Carried.{Changes, fresh, is_idle}
+use Rattle.mov_model.specs.Carried.{Changes, fresh}
 use Rattle.mov_model.specs.Keys.{edit_meta, is_meta, new_meta}
 use Rattle.mov_model.specs.Movie.{Movie, movie_of, spell_movie}
 use Rattle.mov_model.specs.New.{edit_cuts, new_movie}
@@ -53,14 +54,10 @@ all_sizes m e =
     ∷ (limited (2 ^ 26) (length (spell (new_movie m e).movie)) ∷ (table_sizes m e ++ limited 9223372036854775807 (length (spell_movie (new_movie m e))) ∷ []))))
 
 -- without an item nothing is
-abbrev pub size_by : Movie → Changes → Bool → Option Size
-size_by m e true = None
-size_by m e false = first_above (all_sizes m e)
+abbrev pub large_by : Movie → Changes → List EditItem → Option Size
+large_by m e [] = None
+large_by m e (i ∷ is) = first_above (all_sizes m e)
 
--- the first limit that is passed after some changes
-abbrev pub size_passed : Movie → Changes → Option Size
-size_passed m e = size_by m e (is_idle e)
-
--- the first limit that an edit passes
+-- the first limit that is passed, where an item has an effect
 abbrev pub too_large : List ℕ → List EditItem → Option Size
-too_large o e = size_passed (movie_of o) (changes o e)
+too_large o e = large_by (movie_of o) (changes o e) (effective (fields o) e)

@@ -47,8 +47,12 @@ patches o e = patches_of (movie_of o) (changes o e)
 -- ---- room
 
 -- every unit fits, and the patches have at most 16 MiB
+abbrev pub room_of : Movie → Changes → Bool
+room_of m e = units_fit (ends_file m e) (whole_pieces m e) && nat_le (all_bytes (patches_of m e)) (2 ^ 24)
+
+-- the same of an edit
 abbrev pub has_room : List ℕ → List EditItem → Bool
-has_room o e = units_fit (ends_file (movie_of o) (changes o e)) (whole_pieces (movie_of o) (changes o e)) && nat_le (all_bytes (patches o e)) (2 ^ 24)
+has_room o e = room_of (movie_of o) (changes o e)
 
 -- the edit has room in place
 abbrev pub Room : List ℕ → List EditItem → Type 0
