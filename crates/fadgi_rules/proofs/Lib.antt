@@ -12,3 +12,4 @@ pub mod Range
 pub mod Spelled
 pub mod Tested
 pub mod Views
+mod NoBext
