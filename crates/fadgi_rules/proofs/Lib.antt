@@ -12,4 +12,3 @@ pub mod Range
 pub mod Spelled
 pub mod Tested
 pub mod Views
-mod NoBext

@@ -204,7 +204,7 @@ fn with_info(alloc: Global, mut fields: Fields, id: &[u8; 4], raw: &[u8]) -> Res
 }
 
 #[test]
-#[tactic(auto, using(crate::proofs::NoBext::none_lawful))]
+#[tactic(auto, using(field_model::proofs::Fills::none_lawful))]
 fn fields_as_they_stand(rt: HostRuntime) -> Result<(), Fail> {
     let heap = rt.alloc();
     let none = Fields::new(heap);

@@ -36,3 +36,7 @@ ranges_whole f (b ∷ c ∷ bs) h few long = absurd (omega arith)
 pub ranges_lawful : (f : FieldMap) (bs : List (List ℕ)) → ((field : BextField) → f (Bext field) ≡ map plain (map (range_of (bext_row field)) bs)) → length bs ≤ 1 → AllByRecursion (λ b. 602 ≤ length b) bs
     → ((name : List ℕ) → f (Key name) ≡ []) → IsLawful f
 ranges_lawful f bs h few long none = record { bext = ranges_whole f bs h few long; keys = λ name. subst (AllByRecursion HasKeyHead) (sym (none name)) tt }
+
+-- Fields without `bext` and without keys are lawful.
+pub none_lawful : (f : FieldMap) → ((field : BextField) → f (Bext field) ≡ []) → ((key : List ℕ) → f (Key key) ≡ []) → IsLawful f
+none_lawful f bext keys = record { bext = inr bext; keys = λ key. subst (AllByRecursion HasKeyHead) (sym (keys key)) tt }
