@@ -1,7 +1,21 @@
 -- Movies have the laws of a kind of files.
-use Rattle.std.proofs.Common.{◌≡◌, ℕ, ◌≤◌, ◌^◌, Bool, true, false, cond, List, [], ◌∷◌, length, None, refl, sym, ap, subst, ◌∙◌, arith, inl, inr}
+use Rattle.std.proofs.Common.{◌≡◌, ℕ, ◌≤◌, ◌^◌, Bool, true, false, cond, List, [], ◌∷◌, length, map, None, refl, sym, ap, subst, ◌∙◌, arith, inl, inr}
 use Rattle.std.specs.Prelude.{◌⊎◌, ◌-◌}
-use Rattle.std.specs.List.{filter_map}
+use Rattle.std.specs.List.{AllByRecursion, filter_map}
+use Rattle.part_tree.specs.Keys.{is_key_name}
+use Rattle.field_model.specs.Fields.{plain}
+use Rattle.field_model.specs.Lawful.{HasKeyHead, IsLawful}
+use Rattle.container_model.specs.Chunk.{Chunk}
+use Rattle.mov_model.specs.Keys.{is_meta, table_in}
+use Rattle.mov_model.specs.Parts.{first_of, parts}
+use Rattle.mov_model.proofs.Again.{kids, kids_bytes}
+use Rattle.mov_model.proofs.Carry.{first_all}
+use Rattle.mov_model.proofs.Clauses.{all_solids}
+use Rattle.mov_model.proofs.Fits.{values_of_key}
+use Rattle.mov_model.proofs.Keys.{Long, first_table_is, table_among, table_well, values_long}
+use Rattle.mov_model.proofs.Parts.{always}
+use Rattle.qt_keys.specs.Set.{key_values}
+use Rattle.qt_keys.specs.declared.table.KeyTable.{KeyTable}
 use Rattle.me_bytes.specs.Bytes.{IsBytes}
 use Rattle.part_tree.specs.Large.{first_above}
 use Rattle.part_tree.specs.declared.field.EditItem.{EditItem}
@@ -98,6 +112,29 @@ same_edit o e all is =
       same_patches = ap (patches_of (movie_of o)) changed;
     }
 
+-- ---- lawful fields
+
+first_long : (cs : List Chunk) (name : List ℕ) → AllByRecursion (λ c. is_meta c ≡ true) cs → AllByRecursion (λ c. IsBytes c.body) cs → AllByRecursion Long (key_values name (table_among cs))
+first_long [] name m b = tt
+first_long (c ∷ cs) name m b = values_long name (table_in c) (table_well c m.0 b.0)
+
+long_plain : (vs : List (List ℕ)) → AllByRecursion Long vs → AllByRecursion HasKeyHead (map plain vs)
+long_plain [] h = tt
+long_plain (v ∷ vs) h = (h.0, long_plain vs h.1)
+
+lawful : (o : List ℕ) → IsBytes o → Supported o → IsLawful (fields o)
+lawful o bytes s = record { bext = inr (λ field. refl); keys = λ name. go name (is_key_name name) }
+  where
+    long : (name : List ℕ) → AllByRecursion Long (values_of_key o name)
+    long name =
+        let cs = parts (movie_of o) in
+        let all = all_solids (λ c. IsBytes c.body) (λ c b. b) (kids o bytes s) (kids_bytes o bytes s) in
+        subst (λ (t : KeyTable). AllByRecursion Long (key_values name t)) (sym (first_table_is cs)) (first_long (first_of is_meta cs) name (always is_meta cs) (first_all is_meta (λ c. IsBytes c.body) (λ c. IsBytes c.body) (λ c m b. b) cs all))
+
+    go : (name : List ℕ) (t : Bool) → AllByRecursion HasKeyHead (cond t (map plain (values_of_key o name)) [])
+    go name true = long_plain (values_of_key o name) (long name)
+    go name false = tt
+
 -- ---- the laws
 
 pub is_kind : IsKind narrow_kind
@@ -107,5 +144,5 @@ is_kind = record {
   in_place = λ o e bytes w small room. in_place o e bytes (none_supported o w) room;
   no_larger = λ o e bytes w small. no_larger o e small;
   by_effect = λ o e all is. same_edit o e all is;
-  lawful = λ o bytes w. inr (λ field. refl);
+  lawful = λ o bytes w. lawful o bytes (none_supported o w);
 }

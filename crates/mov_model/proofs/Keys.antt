@@ -1,5 +1,5 @@
 -- Key tables of movies: what an edit makes of one is read again, has the values that were set, and is bare as the old one is.
-use Rattle.std.proofs.Common.{Bool, List, None, Option, Some, [], ap, arith, cond, false, length, map, refl, sym, true, ℕ, ◌++◌, ◌-◌, ◌∙◌, ◌∷◌, ◌≡◌, ◌≢◌}
+use Rattle.std.proofs.Common.{Bool, List, None, Option, Some, [], ap, arith, cond, false, length, map, refl, sym, true, ℕ, ◌++◌, ◌-◌, ◌∙◌, ◌∷◌, ◌≡◌, ◌≢◌, ◌≤◌}
 use Rattle.std.specs.Prelude.{IfSome, codes, is_some, ◌&&◌, ◌==◌}
 use Rattle.std.proofs.lemmas.Bool.{and_parts}
 use Rattle.std.specs.List.{AllByRecursion}
@@ -13,12 +13,12 @@ use Rattle.container_model.specs.Items.{Item, listed, updated}
 use Rattle.mov_model.specs.Keys.{bare, bare_child, bare_item, edit_meta, first_table, is_field, is_field_at, is_meta, new_table, no_table, table_in, table_or, with_keys}
 use Rattle.mov_model.specs.Parts.{first_of}
 use Rattle.mov_model.proofs.Fits.{KeyItems, SmallBody}
-use Rattle.qt_keys.proofs.Again.{Well, well_again}
+use Rattle.qt_keys.proofs.Again.{Well, WellChild, WellItem, well_again}
 use Rattle.qt_keys.proofs.Found.{read_well}
 use Rattle.qt_keys.proofs.Keyed.{key_is_set, others_stay, well_set}
 use Rattle.qt_keys.specs.Read.{key_table}
-use Rattle.qt_keys.specs.Set.{child_set, child_without, index_of, item_of, key_values, names, with_entry, with_item, with_key, without_item}
-use Rattle.qt_keys.specs.Table.{entries_among, entries_of, table_bytes}
+use Rattle.qt_keys.specs.Set.{child_set, child_without, index_of, item_of, key_values, names, values_at, with_entry, with_item, with_key, without_item}
+use Rattle.qt_keys.specs.Table.{entries_among, entries_of, items_among, items_of, table_bytes}
 use Rattle.qt_keys.specs.declared.table.KeyChild.{KeyChild}
 use Rattle.qt_keys.specs.declared.table.KeyChild.TheVariants.{Items, Keys, Other}
 use Rattle.qt_keys.specs.declared.table.KeyEntry.{KeyEntry}
@@ -81,6 +81,31 @@ keys_values (i ∷ e) t name k w =
     go : (b : Bool) → bytes_eq name i.name ≡ b → key_values name (with_key i.name i.value t) ≡ cond b (listed i.value) (key_values name t)
     go true s = ap (λ (x : List ℕ). key_values x (with_key i.name i.value t)) (same_true name i.name s) ∙ key_is_set i.name i.value t w ∙ one_value i.value
     go false s = others_stay name i.name i.value t (apart_of name i.name s) w
+
+-- each value of a key has its type and its locale
+abbrev pub Long : List ℕ → Type 0
+Long v = 8 ≤ length v
+
+well_items : (cs : List KeyChild) → AllByRecursion WellChild cs → AllByRecursion WellItem (items_among cs)
+well_items [] w = tt
+well_items (Other bytes ∷ cs) w = well_items cs w.1
+well_items (Keys head es ∷ cs) w = well_items cs w.1
+well_items (Items is ∷ cs) w = w.0
+
+well_values : (n : ℕ) (is : List KeyItem) → AllByRecursion WellItem is → AllByRecursion Long (values_at n is)
+well_values n [] w = tt
+well_values n (i ∷ is) w = go (i.index == n) (one i.values w.0) (well_values n is w.1)
+  where
+    one : (vs : List (List ℕ)) → Rattle.qt_keys.proofs.Again.AreValues vs → AllByRecursion Long vs
+    one [] a = absurd a
+    one (v ∷ vs) a = (a.0, a.1)
+
+    go : (t : Bool) → AllByRecursion Long i.values → AllByRecursion Long (values_at n is) → AllByRecursion Long (cond t i.values (values_at n is))
+    go true a b = a
+    go false a b = b
+
+pub values_long : (name : List ℕ) (t : KeyTable) → Well t → AllByRecursion Long (key_values name t)
+values_long name t w = well_values (index_of name (entries_of t)) (items_of t) (well_items t.children w.children)
 
 -- where nothing is set there is nothing
 pub nothing_set : (e : List (Item (List ℕ))) (name : List ℕ) → sets_some e ≡ false → updated e name [] ≡ []
