@@ -18,13 +18,21 @@ use Rattle.avi_model.proofs.Respelled.{IsList, respelled_form, respelled_id, res
 use Rattle.avi_model.proofs.Streams.{IsKid, AreKids, list_with_plain, none_after, spell_long}
 use Rattle.avi_model.proofs.StreamsGo.{is_index, all_in, hdrl_block, hdrl_follows}
 
--- a chunk of the first form: hdrl is read to its end, and so are the streams' lists in it
-pub record IsChild (c : Chunk) : Type 0 where
-  pub plain : IsPlain c
-  pub opens : is_hdrl c ≡ true → IsList c × AreKids (list_run c).chunks
+-- what is opened in hdrl: it is read to its end, and so are the streams' lists in it
+abbrev pub Opens : Chunk → Type 0
+Opens c = IsList c × AreKids (list_run c).chunks
+
+-- the first hdrl is opened
+abbrev pub FirstOpens : List Chunk → Type 0
+FirstOpens [] = Unit {0}
+FirstOpens (c ∷ cs) = (is_hdrl c ≡ true → Opens c) × (is_hdrl c ≡ false → FirstOpens cs)
 
 abbrev pub AreChildren : List Chunk → Type 0
-AreChildren cs = AllByRecursion IsChild cs
+AreChildren cs = ArePlain cs × FirstOpens cs
+
+-- the chunks behind one that is no hdrl
+pub behind_one : (c : Chunk) (cs : List Chunk) → AreChildren (c ∷ cs) → is_hdrl c ≡ false → AreChildren cs
+behind_one c cs h i = (h.0.1, h.1.1 i)
 
 module _ (e : Names) where
   -- the chunks of hdrl then
@@ -33,19 +41,15 @@ module _ (e : Names) where
 
   pub children_plain : (ends_too : Bool) (cs : List Chunk) → AreChildren cs → ArePlain (children_named e ends_too cs)
   children_plain ends_too [] h = tt
-  children_plain ends_too (c ∷ cs) h = go (is_hdrl c) (children_plain ends_too cs h.1)
+  children_plain ends_too (c ∷ cs) h = go (is_hdrl c) refl (λ i. children_plain ends_too cs (behind_one c cs h i))
     where
-      rest : (cs : List Chunk) → AreChildren cs → ArePlain cs
-      rest [] h = tt
-      rest (d ∷ ds) h = (h.0.plain, rest ds h.1)
-
-      go : (t : Bool) → ArePlain (children_named e ends_too cs) → ArePlain (cond t (hdrl_named e (ends_too && is_nil cs) c ∷ cs) (c ∷ children_named e ends_too cs))
-      go true g = (list_with_plain c (kids_of (ends_too && is_nil cs) c) h.0.plain, rest cs h.1)
-      go false g = (h.0.plain, g)
+      go : (t : Bool) → is_hdrl c ≡ t → (is_hdrl c ≡ false → ArePlain (children_named e ends_too cs)) → ArePlain (cond t (hdrl_named e (ends_too && is_nil cs) c ∷ cs) (c ∷ children_named e ends_too cs))
+      go true i g = (list_with_plain c (kids_of (ends_too && is_nil cs) c) h.0.0, h.0.1)
+      go false i g = (h.0.0, g i)
 
   pub children_pads : (ends_too : Bool) (cs : List Chunk) (left : List ℕ) → AreChildren cs → Pads cs left → Pads (children_named e ends_too cs) left
   children_pads ends_too [] left h p = tt
-  children_pads ends_too (c ∷ cs) left h p = go (is_hdrl c) (children_pads ends_too cs left h.1 p.1)
+  children_pads ends_too (c ∷ cs) left h p = go (is_hdrl c) refl (λ i. children_pads ends_too cs left (behind_one c cs h i) p.1)
     where
       b : List ℕ
       b = take 4 c.body ++ (spell_all (kids_of (ends_too && is_nil cs) c) ++ (list_run c).left)
@@ -59,22 +63,22 @@ module _ (e : Names) where
 
       hdrl : (b : List ℕ) → PadStands (respelled c b).form (length (respelled c b).body) (respelled c b).pad (spell_all cs ++ left)
       hdrl b =
-          let old : PadStands riff (length c.body) c.pad (spell_all cs ++ left) = subst (λ (f : Form). PadStands f (length c.body) c.pad (spell_all cs ++ left)) h.0.plain.form_is p.0 in
-          let new = respelled_stands c b (spell_all cs ++ left) (spell_all cs ++ left) h.0.plain.form_is (λ g. g) old in
-          subst (λ (f : Form). PadStands f (length (respelled c b).body) (respelled c b).pad (spell_all cs ++ left)) (sym (respelled_form c b ∙ h.0.plain.form_is)) (subst (λ (x : List ℕ). PadStands riff (length x) (respelled c b).pad (spell_all cs ++ left)) (sym (respelled_body c b)) new)
+          let old : PadStands riff (length c.body) c.pad (spell_all cs ++ left) = subst (λ (f : Form). PadStands f (length c.body) c.pad (spell_all cs ++ left)) h.0.0.form_is p.0 in
+          let new = respelled_stands c b (spell_all cs ++ left) (spell_all cs ++ left) h.0.0.form_is (λ g. g) old in
+          subst (λ (f : Form). PadStands f (length (respelled c b).body) (respelled c b).pad (spell_all cs ++ left)) (sym (respelled_form c b ∙ h.0.0.form_is)) (subst (λ (x : List ℕ). PadStands riff (length x) (respelled c b).pad (spell_all cs ++ left)) (sym (respelled_body c b)) new)
 
-      go : (t : Bool) → Pads (children_named e ends_too cs) left → Pads (cond t (hdrl_named e (ends_too && is_nil cs) c ∷ cs) (c ∷ children_named e ends_too cs)) left
-      go true g = (hdrl (take 4 c.body ++ (spell_all (kids_of (ends_too && is_nil cs) c) ++ (list_run c).left)), p.1)
-      go false g = (stands p.0, g)
+      go : (t : Bool) → is_hdrl c ≡ t → (is_hdrl c ≡ false → Pads (children_named e ends_too cs) left) → Pads (cond t (hdrl_named e (ends_too && is_nil cs) c ∷ cs) (c ∷ children_named e ends_too cs)) left
+      go true i g = (hdrl (take 4 c.body ++ (spell_all (kids_of (ends_too && is_nil cs) c) ++ (list_run c).left)), p.1)
+      go false i g = (stands p.0, g i)
 
   -- what a view that sees no difference in hdrl sees of the chunks
-  pub children_seen : {X : Type 0} (v : Chunk → List X) → ((ends_too : Bool) (c : Chunk) → IsChild c → is_hdrl c ≡ true → v (hdrl_named e ends_too c) ≡ v c) → (ends_too : Bool) (cs : List Chunk) → AreChildren cs → flat_map v (children_named e ends_too cs) ≡ flat_map v cs
+  pub children_seen : {X : Type 0} (v : Chunk → List X) → ((ends_too : Bool) (c : Chunk) → Opens c → is_hdrl c ≡ true → v (hdrl_named e ends_too c) ≡ v c) → (ends_too : Bool) (cs : List Chunk) → AreChildren cs → flat_map v (children_named e ends_too cs) ≡ flat_map v cs
   children_seen v same ends_too [] h = refl
-  children_seen v same ends_too (c ∷ cs) h = go (is_hdrl c) refl (children_seen v same ends_too cs h.1)
+  children_seen v same ends_too (c ∷ cs) h = go (is_hdrl c) refl (λ i. children_seen v same ends_too cs (behind_one c cs h i))
     where
-      go : (t : Bool) → is_hdrl c ≡ t → flat_map v (children_named e ends_too cs) ≡ flat_map v cs → flat_map v (cond t (hdrl_named e (ends_too && is_nil cs) c ∷ cs) (c ∷ children_named e ends_too cs)) ≡ v c ++ flat_map v cs
-      go true i g = ap (λ (x : List _). x ++ flat_map v cs) (same (ends_too && is_nil cs) c h.0 i)
-      go false i g = ap (λ (x : List _). v c ++ x) g
+      go : (t : Bool) → is_hdrl c ≡ t → (is_hdrl c ≡ false → flat_map v (children_named e ends_too cs) ≡ flat_map v cs) → flat_map v (cond t (hdrl_named e (ends_too && is_nil cs) c ∷ cs) (c ∷ children_named e ends_too cs)) ≡ v c ++ flat_map v cs
+      go true i g = ap (λ (x : List _). x ++ flat_map v cs) (same (ends_too && is_nil cs) c (h.1.0 i) i)
+      go false i g = ap (λ (x : List _). v c ++ x) (g i)
 
   -- ---- where they stand
 
@@ -83,24 +87,24 @@ module _ (e : Names) where
 
   pub children_block : (ends_too : Bool) (at to : ℕ) (cs : List Chunk) → AreChildren cs → Block at to (at + length (spell_all cs)) (to + length (spell_all (children_named e ends_too cs))) (cuts_from ends_too at cs)
   children_block ends_too at to [] h = block_same at to (at + 0) (to + 0) at to (at + 0) (to + 0) [] refl refl refl refl (block_copy at to 0)
-  children_block ends_too at to (c ∷ cs) h = go (is_hdrl c) refl (children_block ends_too (at + length (spell c)) (to + length (spell c)) cs h.1)
+  children_block ends_too at to (c ∷ cs) h = go (is_hdrl c) refl (λ i. children_block ends_too (at + length (spell c)) (to + length (spell c)) cs (behind_one c cs h i))
     where
-      go : (t : Bool) → is_hdrl c ≡ t → Block (at + length (spell c)) (to + length (spell c)) (at + length (spell c) + length (spell_all cs)) (to + length (spell c) + length (spell_all (children_named e ends_too cs))) (cuts_from ends_too (at + length (spell c)) cs)
+      go : (t : Bool) → is_hdrl c ≡ t → (is_hdrl c ≡ false → Block (at + length (spell c)) (to + length (spell c)) (at + length (spell c) + length (spell_all cs)) (to + length (spell c) + length (spell_all (children_named e ends_too cs))) (cuts_from ends_too (at + length (spell c)) cs))
           → Block at to (at + length (spell_all (c ∷ cs))) (to + length (spell_all (cond t (hdrl_named e (ends_too && is_nil cs) c ∷ cs) (c ∷ children_named e ends_too cs))))
             (flat_map (hdrl_cuts e) (cond t (record { at = at; ends = ends_too && is_nil cs; stream = 0; chunk = c } ∷ []) (hdrl_from ends_too (at + length (spell c)) cs)))
       go true i g =
-          let o = h.0.opens i in
+          let o = h.1.0 i in
           let new = hdrl_named e (ends_too && is_nil cs) c in
           let next = at + length (spell c) in
           let goal = to + length (spell new) in
-          block_both at to next goal (at + length (spell_all (c ∷ cs))) (to + length (spell_all (new ∷ cs))) (hdrl_cuts e (record { at = at; ends = ends_too && is_nil cs; stream = 0; chunk = c })) [] (hdrl_block e (ends_too && is_nil cs) c h.0.plain o.0 o.1 at to)
+          block_both at to next goal (at + length (spell_all (c ∷ cs))) (to + length (spell_all (new ∷ cs))) (hdrl_cuts e (record { at = at; ends = ends_too && is_nil cs; stream = 0; chunk = c })) [] (hdrl_block e (ends_too && is_nil cs) c h.0.0 o.0 o.1 at to)
           (block_same next goal (next + length (spell_all cs)) (goal + length (spell_all cs)) next goal (at + length (spell_all (c ∷ cs))) (to + length (spell_all (new ∷ cs))) [] refl refl (omega (arith, length-append (spell c) (spell_all cs))) (omega (arith, length-append (spell new) (spell_all cs))) (block_copy next goal (length (spell_all cs))))
       go false i g =
           let next = at + length (spell c) in
           let goal = to + length (spell c) in
           block_both at to next goal (at + length (spell_all (c ∷ cs))) (to + length (spell_all (c ∷ children_named e ends_too cs))) [] (cuts_from ends_too next cs) (block_copy at to (length (spell c)))
           (block_same next goal (next + length (spell_all cs)) (goal + length (spell_all (children_named e ends_too cs))) next goal (at + length (spell_all (c ∷ cs))) (to + length (spell_all (c ∷ children_named e ends_too cs))) (cuts_from ends_too next cs) refl refl
-          (omega (arith, length-append (spell c) (spell_all cs))) (omega (arith, length-append (spell c) (spell_all (children_named e ends_too cs)))) g)
+          (omega (arith, length-append (spell c) (spell_all cs))) (omega (arith, length-append (spell c) (spell_all (children_named e ends_too cs)))) (g i))
 
   -- chunks that are copied
   all_copied : (p : Chunk → Bool) (at to : ℕ) (cs : List Chunk) → Follows [] at to (at + length (spell_all cs)) (only p (stood at cs)) (only p (stood to cs))
@@ -123,13 +127,13 @@ module _ (e : Names) where
   pub children_follow : (p : Chunk → Bool) → ((c : Chunk) → is_hdrl c ≡ true → p (bare c) ≡ false) → (ends_too : Bool) (at to : ℕ) (cs : List Chunk) → AreChildren cs
       → Follows (cuts_from ends_too at cs) at to (at + length (spell_all cs)) (only p (stood at cs)) (only p (stood to (children_named e ends_too cs)))
   children_follow p none ends_too at to [] h = follow_none [] at to (at + 0)
-  children_follow p none ends_too at to (c ∷ cs) h = go (is_hdrl c) refl (children_follow p none ends_too (at + length (spell c)) (to + length (spell c)) cs h.1)
+  children_follow p none ends_too at to (c ∷ cs) h = go (is_hdrl c) refl (λ i. children_follow p none ends_too (at + length (spell c)) (to + length (spell c)) cs (behind_one c cs h i))
     where
-      go : (t : Bool) → is_hdrl c ≡ t → Follows (cuts_from ends_too (at + length (spell c)) cs) (at + length (spell c)) (to + length (spell c)) (at + length (spell c) + length (spell_all cs)) (only p (stood (at + length (spell c)) cs)) (only p (stood (to + length (spell c)) (children_named e ends_too cs)))
+      go : (t : Bool) → is_hdrl c ≡ t → (is_hdrl c ≡ false → Follows (cuts_from ends_too (at + length (spell c)) cs) (at + length (spell c)) (to + length (spell c)) (at + length (spell c) + length (spell_all cs)) (only p (stood (at + length (spell c)) cs)) (only p (stood (to + length (spell c)) (children_named e ends_too cs))))
           → Follows (flat_map (hdrl_cuts e) (cond t (record { at = at; ends = ends_too && is_nil cs; stream = 0; chunk = c } ∷ []) (hdrl_from ends_too (at + length (spell c)) cs))) at to (at + length (spell_all (c ∷ cs))) (only p (stood at (c ∷ cs)))
             (only p (stood to (cond t (hdrl_named e (ends_too && is_nil cs) c ∷ cs) (c ∷ children_named e ends_too cs))))
       go true i g =
-          let o = h.0.opens i in
+          let o = h.1.0 i in
           let new = hdrl_named e (ends_too && is_nil cs) c in
           let site : Site = record { at = at; ends = ends_too && is_nil cs; stream = 0; chunk = c } in
           let next = at + length (spell c) in
@@ -143,7 +147,7 @@ module _ (e : Names) where
           let copied = block_same next goal (next + length (spell_all cs)) (goal + length (spell_all cs)) next goal end (goal + length (spell_all cs)) [] refl refl (sym long) refl (block_copy next goal (length (spell_all cs))) in
           follow_same (hdrl_cuts e site ++ []) at to end (only p (stood next cs)) (only p (stood goal cs)) (only p (stood at (c ∷ cs))) (only p (stood to (new ∷ cs))) olds news
           (follow_both (hdrl_cuts e site) [] at to next goal end (goal + length (spell_all cs)) [] [] (only p (stood next cs)) (only p (stood goal cs)) (omega (arith, long))
-          (hdrl_block e (ends_too && is_nil cs) c h.0.plain o.0 o.1 at to) copied (follow_none (hdrl_cuts e site) at to next) rest)
+          (hdrl_block e (ends_too && is_nil cs) c h.0.0 o.0 o.1 at to) copied (follow_none (hdrl_cuts e site) at to next) rest)
       go false i g =
           let next = at + length (spell c) in
           let goal = to + length (spell c) in
@@ -152,8 +156,8 @@ module _ (e : Names) where
           let long : next + length (spell_all cs) ≡ end = omega (arith, length-append (spell c) (spell_all cs)) in
           let one = all_copied p at to (c ∷ []) in
           let first = subst (λ (k : ℕ). Follows [] at to k (only p (stood at (c ∷ []))) (only p (stood to (c ∷ [])))) (ap (λ (x : List ℕ). at + length x) (append-nil (spell c))) one in
-          let rest = subst (λ (k : ℕ). Follows (cuts_from ends_too next cs) next goal k (only p (stood next cs)) (only p (stood goal more))) long g in
-          let block = block_same next goal (next + length (spell_all cs)) (goal + length (spell_all more)) next goal end (goal + length (spell_all more)) (cuts_from ends_too next cs) refl refl (sym long) refl (children_block ends_too next goal cs h.1) in
+          let rest = subst (λ (k : ℕ). Follows (cuts_from ends_too next cs) next goal k (only p (stood next cs)) (only p (stood goal more))) long (g i) in
+          let block = block_same next goal (next + length (spell_all cs)) (goal + length (spell_all more)) next goal end (goal + length (spell_all more)) (cuts_from ends_too next cs) refl refl (sym long) refl (children_block ends_too next goal cs (behind_one c cs h i)) in
           follow_same (cuts_from ends_too next cs) at to end (only p (stood at (c ∷ [])) ++ only p (stood next cs)) (only p (stood to (c ∷ [])) ++ only p (stood goal more)) (only p (stood at (c ∷ cs))) (only p (stood to (c ∷ more)))
           (only_first p (record { at = at; chunk = bare c }) (stood next cs)) (only_first p (record { at = to; chunk = bare c }) (stood goal more))
           (follow_both [] (cuts_from ends_too next cs) at to next goal end (goal + length (spell_all more)) (only p (stood at (c ∷ []))) (only p (stood to (c ∷ []))) (only p (stood next cs)) (only p (stood goal more)) (omega (arith, long))
@@ -166,14 +170,14 @@ module _ (e : Names) where
   pub streams_follow : (ends_too : Bool) (at to : ℕ) (cs : List Chunk) → AreChildren cs → length (spell_all (children_named e ends_too cs)) < 2 ^ 32
       → Follows (cuts_from ends_too at cs) at to (at + length (spell_all cs)) (stream_in (stood at cs)) (stream_in (stood to (children_named e ends_too cs)))
   streams_follow ends_too at to [] h lt = follow_none [] at to (at + 0)
-  streams_follow ends_too at to (c ∷ cs) h lt = go (is_hdrl c) refl lt (λ l. streams_follow ends_too (at + length (spell c)) (to + length (spell c)) cs h.1 l)
+  streams_follow ends_too at to (c ∷ cs) h lt = go (is_hdrl c) refl lt (λ i l. streams_follow ends_too (at + length (spell c)) (to + length (spell c)) cs (behind_one c cs h i) l)
     where
       go : (t : Bool) → is_hdrl c ≡ t → length (spell_all (cond t (hdrl_named e (ends_too && is_nil cs) c ∷ cs) (c ∷ children_named e ends_too cs))) < 2 ^ 32
-          → (length (spell_all (children_named e ends_too cs)) < 2 ^ 32 → Follows (cuts_from ends_too (at + length (spell c)) cs) (at + length (spell c)) (to + length (spell c)) (at + length (spell c) + length (spell_all cs)) (stream_in (stood (at + length (spell c)) cs)) (stream_in (stood (to + length (spell c)) (children_named e ends_too cs))))
+          → (is_hdrl c ≡ false → length (spell_all (children_named e ends_too cs)) < 2 ^ 32 → Follows (cuts_from ends_too (at + length (spell c)) cs) (at + length (spell c)) (to + length (spell c)) (at + length (spell c) + length (spell_all cs)) (stream_in (stood (at + length (spell c)) cs)) (stream_in (stood (to + length (spell c)) (children_named e ends_too cs))))
           → Follows (flat_map (hdrl_cuts e) (cond t (record { at = at; ends = ends_too && is_nil cs; stream = 0; chunk = c } ∷ []) (hdrl_from ends_too (at + length (spell c)) cs))) at to (at + length (spell_all (c ∷ cs))) (stream_in (stood at (c ∷ cs)))
             (stream_in (stood to (cond t (hdrl_named e (ends_too && is_nil cs) c ∷ cs) (c ∷ children_named e ends_too cs))))
       go true i lt again =
-          let o = h.0.opens i in
+          let o = h.1.0 i in
           let new = hdrl_named e (ends_too && is_nil cs) c in
           let site : Site = record { at = at; ends = ends_too && is_nil cs; stream = 0; chunk = c } in
           let next = at + length (spell c) in
@@ -188,7 +192,7 @@ module _ (e : Names) where
           let inside : length (spell_all (kids_of (ends_too && is_nil cs) c)) < 2 ^ 32 = omega (arith, lt, length-append (spell new) (spell_all cs), spell_long new, list_length c (kids_of (ends_too && is_nil cs) c) o.0) in
           let copied = block_same next goal (next + length (spell_all cs)) (goal + length (spell_all cs)) next goal end (goal + length (spell_all cs)) [] refl refl (sym long) refl (block_copy next goal (length (spell_all cs))) in
           follow_same (hdrl_cuts e site ++ []) at to end (all_in e (kids x)) (all_in e (kids y)) (stream_in (stood at (c ∷ cs))) (stream_in (stood to (new ∷ cs))) olds news
-          (follow_before (hdrl_cuts e site) [] at to next goal end (goal + length (spell_all cs)) (all_in e (kids x)) (all_in e (kids y)) (omega (arith, long)) copied (hdrl_follows e (ends_too && is_nil cs) c h.0.plain o.0 o.1 at to inside))
+          (follow_before (hdrl_cuts e site) [] at to next goal end (goal + length (spell_all cs)) (all_in e (kids x)) (all_in e (kids y)) (omega (arith, long)) copied (hdrl_follows e (ends_too && is_nil cs) c h.0.0 o.0 o.1 at to inside))
       go false i lt again =
           let next = at + length (spell c) in
           let goal = to + length (spell c) in
@@ -200,7 +204,7 @@ module _ (e : Names) where
           let news : stream_in (y ∷ stood goal more) ≡ stream_in (stood goal more) = ap (λ (b : Bool). all_in e (flat_map kids (first_of (cond b (y ∷ only is_hdrl (stood goal more)) (only is_hdrl (stood goal more)))))) i in
           follow_same (cuts_from ends_too next cs) at to end (stream_in (stood next cs)) (stream_in (stood goal more)) (stream_in (stood at (c ∷ cs))) (stream_in (stood to (c ∷ more))) olds news
           (follow_wider (cuts_from ends_too next cs) at to (length (spell c)) (next + length (spell_all cs)) end (stream_in (stood next cs)) (stream_in (stood goal more)) (omega (arith, length-append (spell c) (spell_all cs)))
-          (again (omega (arith, lt, length-append (spell c) (spell_all more)))))
+          (again i (omega (arith, lt, length-append (spell c) (spell_all more)))))
 
   -- ---- the same as a move of places
 

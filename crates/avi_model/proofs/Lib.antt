@@ -59,3 +59,4 @@ pub mod Streams
 pub mod Blocks
 pub mod StreamsGo
 pub mod Children
+pub mod NamesSet
