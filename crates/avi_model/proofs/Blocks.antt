@@ -76,6 +76,15 @@ pub follow_before : (a b : List Cut) (at to mid half end goal : ℕ) (olds news 
 follow_before a b at to mid half end goal olds news le g f =
     record { found = f.found; news_are = f.news_are; olds_are = f.olds_are; go = go_before a b at to mid half end goal g f.found f.fits f.go; fits = both_fit mid half end f.found le f.fits }
 
+-- a range that ends further on
+pub follow_further : (cs : List Cut) (at to end far : ℕ) (olds news : List Stood) → end ≤ far → Follows cs at to end olds news → Follows cs at to far olds news
+follow_further cs at to end far olds news le f = record { found = f.found; news_are = f.news_are; olds_are = f.olds_are; go = f.go; fits = both_fit end 0 far f.found le f.fits }
+
+-- spans before a range
+pub follow_behind : (a b : List Cut) (at to mid half end : ℕ) (olds news : List Stood) → Block at to mid half a → Follows b mid half end olds news → Follows (a ++ b) at to end olds news
+follow_behind a b at to mid half end olds news h f =
+    record { found = f.found; news_are = f.news_are; olds_are = f.olds_are; go = All-steps (Goes b mid half) (Goes (a ++ b) at to) (λ x z. goes_behind at to mid half a b h x z) f.found f.go; fits = f.fits }
+
 -- chunks of a range that is copied
 pub follow_copied : (p : Chunk → Bool) (at to d : ℕ) (cs : List Chunk) → Follows [] at to (at + d + length (spell_all cs)) (only p (stood (at + d) cs)) (only p (stood (to + d) cs))
 follow_copied p at to d [] = follow_none [] at to (at + d + 0)

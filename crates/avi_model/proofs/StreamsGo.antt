@@ -1,6 +1,7 @@
 -- Where the chunks of streams' lists stand when other names are set.
 use Rattle.std.proofs.Common.{◌≡◌, ℕ, ◌+◌, ◌-◌, ◌^◌, ◌<◌, ◌≤◌, Bool, true, false, cond, leb, List, [], ◌∷◌, ◌++◌, length, map, take, drop, refl, sym, ap, subst, ◌∙◌, arith}
 use Rattle.std.specs.Prelude.{◌&&◌, ◌||◌, codes}
+use Rattle.std.specs.Int.{w32, to_le_bytes}
 use Rattle.std.specs.Str.{bytes_eq}
 use Rattle.std.specs.List.{flat_map, AllByRecursion}
 use Rattle.std.proofs.lemmas.List.{length-append, length-drop}
@@ -11,7 +12,7 @@ use Rattle.container_model.specs.Splice.{Cut}
 use Rattle.container_model.specs.Stood.{Stood, bare, stood, only}
 use Rattle.container_model.specs.Units.{Cell, was, shut, units, lay, cuts}
 use Rattle.container_model.proofs.Copied.{Unseen, Quiet, Later, only-append}
-use Rattle.container_model.proofs.Goes.{Block, block_copy, block_both, block_pieces}
+use Rattle.container_model.proofs.Goes.{Block, block_copy, block_both, block_pieces, block_cut}
 use Rattle.container_model.proofs.Places.{old_length, Before}
 use Rattle.container_model.proofs.Plain.{IsPlain}
 use Rattle.container_model.proofs.Units.{units_old, units_bring}
@@ -22,7 +23,7 @@ use Rattle.carrier_model.specs.RiffForm.{pad_cut}
 use Rattle.carrier_model.proofs.Names.{was_names, quiet_names}
 use Rattle.avi_model.specs.Avi.{has_id, kids}
 use Rattle.avi_model.specs.Named.{Names, is_named, names_after, new_names, cell_by, cell_of, list_with, ends_list, is_strl, is_hdrl, strl_pieces, strl_fill, strl_named, kid_named, kids_named, hdrl_named, Site, sites_from, sites_in, list_pad, strl_cuts, hdrl_cuts}
-use Rattle.avi_model.proofs.Blocks.{block_same, block_pad, Follows, follow_none, follow_same, follow_wider, follow_both, follow_before, follow_copied, follow_pieces}
+use Rattle.avi_model.proofs.Blocks.{block_same, block_pad, Follows, follow_none, follow_same, follow_further, follow_behind, follow_both, follow_before, follow_copied, follow_pieces}
 use Rattle.avi_model.proofs.Lies.{list_joined}
 use Rattle.avi_model.proofs.Respelled.{IsList, respelled_form, respelled_id, list_length, made_names, all_names, laid_chunks, strl_run}
 use Rattle.avi_model.proofs.Streams.{IsKid, AreKids, kid_strl, laid_small, list_with_plain, hdrl_run}
@@ -35,7 +36,7 @@ is_index c = has_id (codes "indx") c
 
 spell_is : (c : Chunk) → IsPlain c → length (spell c) ≡ 8 + length c.body + length c.pad
 spell_is c h =
-    let head : length (header_bytes c.form c.id (length c.body)) ≡ 8 = rw h.form_is (omega (arith, h.id_len, length-append c.id (Rattle.std.specs.Int.to_le_bytes Rattle.std.specs.Int.w32 (length c.body)))) in
+    let head : length (header_bytes c.form c.id (length c.body)) ≡ 8 = rw h.form_is (omega (arith, h.id_len, length-append c.id (to_le_bytes w32 (length c.body)))) in
     omega (arith, head, length-append (header_bytes c.form c.id (length c.body)) (c.body ++ c.pad), length-append c.body c.pad)
 
 -- how long a list is
@@ -70,6 +71,17 @@ module _ (c : Chunk) (cs : List Chunk) (plain : IsPlain c) (is : IsList c) where
   abbrev with_pad : ℕ → List Cut → List Cut
   with_pad at k = k ++ pad_cut (at + 8 + length c.body) c.pad (list_with c cs).pad
 
+  abbrev size : ℕ → Cut
+  size at = record { at = at + 4; len = 4; bytes = to_le_bytes w32 (length (list_with c cs).body) }
+
+  -- the header and the type
+  pub head_block : (at to : ℕ) → Block at to (at + 12) (to + 12) (size at ∷ [])
+  head_block at to =
+      block_both at to (at + 4) (to + 4) (at + 12) (to + 12) [] (size at ∷ []) (block_copy at to 4)
+      (block_both (at + 4) (to + 4) (at + 8) (to + 8) (at + 12) (to + 12) (size at ∷ []) []
+      (block_same (at + 4) (to + 4) (at + 4 + 4) (to + 4 + 4) (at + 4) (to + 4) (at + 8) (to + 8) (size at ∷ []) refl refl (omega arith) (omega arith) (block_cut (size at) (to + 4)))
+      (block_same (at + 8) (to + 8) (at + 8 + 4) (to + 8 + 4) (at + 8) (to + 8) (at + 12) (to + 12) [] refl refl (omega arith) (omega arith) (block_copy (at + 8) (to + 8) 4)))
+
   pub old_long : length (spell c) ≡ 12 + length (spell_all (list_run c).chunks) + length (list_run c).left + length c.pad
   old_long = omega (arith, spell_is c plain, list_is c is)
 
@@ -87,9 +99,9 @@ module _ (c : Chunk) (cs : List Chunk) (plain : IsPlain c) (is : IsList c) where
       (block_same (at + 8 + length c.body) (half + l) (at + 8 + length c.body + length c.pad) (half + l + length (list_with c cs).pad) (mid + l) (half + l) (at + length (spell c)) (to + length (spell (list_with c cs))) pad
       (omega (arith, list_is c is)) refl (omega (arith, old_long, list_is c is)) (omega (arith, new_long)) (block_pad (at + 8 + length c.body) (half + l) c.pad (list_with c cs).pad))
 
-  pub list_block : (at to : ℕ) (k : List Cut) → Block (at + 12) (to + 12) (at + 12 + length (spell_all (list_run c).chunks)) (to + 12 + length (spell_all cs)) k → Block at to (at + length (spell c)) (to + length (spell (list_with c cs))) (with_pad at k)
+  pub list_block : (at to : ℕ) (k : List Cut) → Block (at + 12) (to + 12) (at + 12 + length (spell_all (list_run c).chunks)) (to + 12 + length (spell_all cs)) k → Block at to (at + length (spell c)) (to + length (spell (list_with c cs))) (size at ∷ with_pad at k)
   list_block at to k b =
-      block_both at to (at + 12) (to + 12) (at + length (spell c)) (to + length (spell (list_with c cs))) [] (with_pad at k) (block_copy at to 12)
+      block_both at to (at + 12) (to + 12) (at + length (spell c)) (to + length (spell (list_with c cs))) (size at ∷ []) (with_pad at k) (head_block at to)
       (block_both (at + 12) (to + 12) (at + 12 + length (spell_all (list_run c).chunks)) (to + 12 + length (spell_all cs)) (at + length (spell c)) (to + length (spell (list_with c cs))) k (pad_cut (at + 8 + length c.body) c.pad (list_with c cs).pad) b (tail_block at to))
 
 -- ---- one list
@@ -107,8 +119,11 @@ module _ (ends_too : Bool) (vs : List (List ℕ)) (c : Chunk) (plain : IsPlain c
   old_is : old_length (strl_pieces (made_names vs) c) ≡ length (spell_all (list_run c).chunks)
   old_is = ap length (units_old shut (name_cells (made_names vs) (map cell_of (list_run c).chunks))) ∙ ap (λ (cs : List Chunk). length (spell_all cs)) was_is
 
+  abbrev slots_in : ℕ → List Cut
+  slots_in at = cuts (strl_fill ends_too c) (at + 12) (strl_pieces (made_names vs) c) ++ pad_cut (at + 8 + length c.body) c.pad (strl_named ends_too (made_names vs) c).pad
+
   abbrev cuts_in : ℕ → List Cut
-  cuts_in at = cuts (strl_fill ends_too c) (at + 12) (strl_pieces (made_names vs) c) ++ pad_cut (at + 8 + length c.body) c.pad (strl_named ends_too (made_names vs) c).pad
+  cuts_in at = record { at = at + 4; len = 4; bytes = to_le_bytes w32 (length (strl_named ends_too (made_names vs) c).body) } ∷ slots_in at
 
   pub strl_block : (at to : ℕ) → Block at to (at + length (spell c)) (to + length (spell (strl_named ends_too (made_names vs) c))) (cuts_in at)
   strl_block at to =
@@ -131,7 +146,8 @@ module _ (ends_too : Bool) (vs : List (List ℕ)) (c : Chunk) (plain : IsPlain c
       let olds : only is_index (kids (record { at = at; chunk = bare c })) ≡ only is_index (stood (at + 12) (flat_map was xs)) = ap (λ (cs : List Chunk). only is_index (stood (at + 12) cs)) (sym was_is) in
       let end : at + 12 + length (spell_all (flat_map was xs)) ≤ at + length (spell c) = omega (arith, old_long c (laid_chunks ends_too vs c) plain is, ap (λ (cs : List Chunk). length (spell_all cs)) was_is) in
       follow_same (cuts_in at) at to (at + length (spell c)) (only is_index (stood (at + 12) (flat_map was xs))) (only is_index (stood (to + 12) (laid_chunks ends_too vs c))) (only is_index (kids (record { at = at; chunk = bare c }))) (only is_index (kids (record { at = to; chunk = bare new }))) olds news
-      (follow_wider (cuts_in at) at to 12 (at + 12 + length (spell_all (flat_map was xs))) (at + length (spell c)) (only is_index (stood (at + 12) (flat_map was xs))) (only is_index (stood (to + 12) (laid_chunks ends_too vs c))) end f)
+      (follow_behind (record { at = at + 4; len = 4; bytes = to_le_bytes w32 (length new.body) } ∷ []) (slots_in at) at to (at + 12) (to + 12) (at + length (spell c)) (only is_index (stood (at + 12) (flat_map was xs))) (only is_index (stood (to + 12) (laid_chunks ends_too vs c)))
+      (head_block c (laid_chunks ends_too vs c) plain is at to) (follow_further (slots_in at) (at + 12) (to + 12) (at + 12 + length (spell_all (flat_map was xs))) (at + length (spell c)) (only is_index (stood (at + 12) (flat_map was xs))) (only is_index (stood (to + 12) (laid_chunks ends_too vs c))) end f))
 
 -- ---- the chunks of hdrl
 
@@ -235,5 +251,5 @@ module _ (e : Names) where
         let news : all_in (kids (record { at = to; chunk = bare (hdrl_named e ends_too c) })) ≡ all_in (stood (to + 12) kids_then) = ap (λ (r : Run). all_in (stood (to + 12) r.chunks)) (hdrl_run e ends_too c is kids_are lt) in
         let long = old_long c kids_then plain is in
         follow_same (hdrl_cuts e (site at)) at to (at + length (spell c)) (all_in (stood (at + 12) cs)) (all_in (stood (to + 12) kids_then)) (all_in (kids (record { at = at; chunk = bare c }))) (all_in (kids (record { at = to; chunk = bare (hdrl_named e ends_too c) }))) refl news
-        (follow_wider (hdrl_cuts e (site at)) at to 12 (at + length (spell c)) (at + length (spell c)) (all_in (stood (at + 12) cs)) (all_in (stood (to + 12) kids_then)) (omega arith)
+        (follow_behind (record { at = at + 4; len = 4; bytes = to_le_bytes w32 (length (hdrl_named e ends_too c).body) } ∷ []) (inner ++ pad) at to (at + 12) (to + 12) (at + length (spell c)) (all_in (stood (at + 12) cs)) (all_in (stood (to + 12) kids_then)) (head_block c kids_then plain is at to)
         (follow_before inner pad (at + 12) (to + 12) (at + 12 + length (spell_all cs)) (to + 12 + length (spell_all kids_then)) (at + length (spell c)) (to + length (spell (hdrl_named e ends_too c))) (all_in (stood (at + 12) cs)) (all_in (stood (to + 12) kids_then)) (omega (arith, long)) (tail_block c kids_then plain is at to) f))

@@ -1,5 +1,5 @@
--- The streams' lists of an AVI file after an edit of their names, and the spans and patches that make them (AVI RIFF File
--- Reference, strl; slots, padding and pads are this project's own).
+-- The streams' lists of an AVI file after an edit of their names, and the spans that make them (AVI RIFF File Reference, strl;
+-- slots, padding and pads are this project's own).
 use Rattle.std.specs.Prelude.{ℕ, ◌+◌, ◌%◌, ◌==◌, List, [], ◌∷◌, ◌++◌, length, take, map, Bool, true, false, ◌&&◌, Option, codes, if◌then◌else◌}
 use Rattle.std.specs.Int.{w32, to_le_bytes}
 use Rattle.std.specs.List.{flat_map, list_any, list_all}
@@ -149,48 +149,26 @@ hdrl_site a = hdrl_from (ends_file a) 12 a.children
 
 -- ---- the same as spans of the old file
 
+-- the size of a list
+abbrev pub list_size : Site → Chunk → Cut
+list_size s new = record { at = s.at + 4; len = 4; bytes = to_le_bytes w32 (length new.body) }
+
 -- the pad of a list, where it goes or comes
 abbrev pub list_pad : Site → Chunk → List Cut
 list_pad s new = pad_cut (s.at + 8 + length s.chunk.body) s.chunk.pad new.pad
 
--- the slots in a stream's list, and its pad
+-- the size of a stream's list, the slots in it, and its pad
 abbrev pub strl_cuts : Names → Site → List Cut
 strl_cuts e s =
-    let new = new_names e s.stream in
-    cuts (strl_fill s.ends s.chunk) (s.at + 12) (strl_pieces new s.chunk) ++ list_pad s (strl_named s.ends new s.chunk)
+    let new = strl_named s.ends (new_names e s.stream) s.chunk in
+    list_size s new ∷ (cuts (strl_fill s.ends s.chunk) (s.at + 12) (strl_pieces (new_names e s.stream) s.chunk) ++ list_pad s new)
 
--- those in hdrl, and its pad
+-- the size of hdrl, the spans in it, and its pad
 abbrev pub hdrl_cuts : Names → Site → List Cut
-hdrl_cuts e s = flat_map (strl_cuts e) (sites_in e s) ++ list_pad s (hdrl_named e s.ends s.chunk)
+hdrl_cuts e s =
+    let new = hdrl_named e s.ends s.chunk in
+    list_size s new ∷ (flat_map (strl_cuts e) (sites_in e s) ++ list_pad s new)
 
 -- the spans that an edit of names replaces
 abbrev pub name_cuts : Avi → Names → List Cut
 name_cuts a e = flat_map (hdrl_cuts e) (hdrl_site a)
-
--- ---- in place
-
--- the size of a list, where it changes
-abbrev pub list_size : Site → Chunk → List Patch
-list_size s new = if length s.chunk.body == length new.body then [] else patch (s.at + 4) (to_le_bytes w32 (length new.body))
-
--- the size of a stream's list, and its units
-abbrev pub strl_patches : Names → Site → List Patch
-strl_patches e s =
-    let new = new_names e s.stream in
-    list_size s (strl_named s.ends new s.chunk) ++ unit_patches (strl_fill s.ends s.chunk) (s.at + 12) (strl_pieces new s.chunk)
-
--- the size of hdrl, and the patches in it
-abbrev pub hdrl_patches : Names → Site → List Patch
-hdrl_patches e s = list_size s (hdrl_named e s.ends s.chunk) ++ flat_map (strl_patches e) (sites_in e s)
-
--- the patches of an edit of names
-abbrev pub name_patches : Avi → Names → List Patch
-name_patches a e = flat_map (hdrl_patches e) (hdrl_site a)
-
--- the units in a stream's list fit their slots
-abbrev pub strl_fits : Names → Site → Bool
-strl_fits e s = units_fit (s.ends && ends_list s.chunk) (strl_pieces (new_names e s.stream) s.chunk)
-
--- every unit of names fits its slot
-abbrev pub names_fit : Avi → Names → Bool
-names_fit a e = list_all (λ s. list_all (strl_fits e) (sites_in e s)) (hdrl_site a)
