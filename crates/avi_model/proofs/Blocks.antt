@@ -1,5 +1,5 @@
 -- Chunks that are looked for in ranges of which each is edited on its own.
-use Rattle.std.proofs.Common.{◌≡◌, ℕ, ◌+◌, ◌<◌, ◌≤◌, Bool, true, false, cond, List, [], ◌∷◌, ◌++◌, length, map, refl, sym, ap, subst, ◌∙◌, arith}
+use Rattle.std.proofs.Common.{◌≡◌, ℕ, ◌+◌, ◌≤◌, Bool, true, false, cond, List, [], ◌∷◌, ◌++◌, length, map, refl, sym, ap, subst, ◌∙◌, arith}
 use Rattle.std.specs.Str.{bytes_eq}
 use Rattle.std.specs.List.{flat_map, AllByRecursion}
 use Rattle.std.proofs.lemmas.List.{length-append}
@@ -97,7 +97,7 @@ follow_copied p at to d (c ∷ cs) =
   where
     go : (t : Bool) → Follows [] at to (at + (d + length (spell c)) + length (spell_all cs)) (only p (stood (at + d + length (spell c)) cs)) (only p (stood (to + d + length (spell c)) cs)) → at + (d + length (spell c)) + length (spell_all cs) ≡ at + d + length (spell_all (c ∷ cs))
         → Follows [] at to (at + d + length (spell_all (c ∷ cs))) (cond t (record { at = at + d; chunk = bare c } ∷ only p (stood (at + d + length (spell c)) cs)) (only p (stood (at + d + length (spell c)) cs)))
-          (cond t (record { at = to + d; chunk = bare c } ∷ only p (stood (to + d + length (spell c)) cs)) (only p (stood (to + d + length (spell c)) cs)))
+        (cond t (record { at = to + d; chunk = bare c } ∷ only p (stood (to + d + length (spell c)) cs)) (only p (stood (to + d + length (spell c)) cs)))
     go false f e = record { found = f.found; news_are = f.news_are; olds_are = f.olds_are; go = f.go; fits = both_fit _ 0 (at + d + length (spell_all (c ∷ cs))) f.found (omega (arith, e)) f.fits }
     go true f e = record {
       found = record { old = at + d; new = to + d; chunk = bare c } ∷ f.found;

@@ -1,22 +1,22 @@
 -- The first form when other names are set: its chunks are read again, and each stands where the spans put it.
-use Rattle.std.proofs.Common.{◌≡◌, ℕ, ◌+◌, ◌^◌, ◌<◌, ◌≤◌, Bool, true, false, cond, List, [], ◌∷◌, ◌++◌, length, map, take, refl, sym, ap, subst, ◌∙◌, arith, inl, inr}
-use Rattle.std.specs.Prelude.{◌⊎◌, ◌&&◌, codes}
+use Rattle.std.proofs.Common.{◌≡◌, ℕ, ◌+◌, ◌^◌, ◌<◌, Bool, true, false, cond, List, [], ◌∷◌, ◌++◌, length, map, take, refl, sym, ap, subst, ◌∙◌, arith, inl, inr}
+use Rattle.std.specs.Prelude.{◌&&◌, codes}
 use Rattle.std.specs.List.{flat_map, AllByRecursion}
 use Rattle.std.proofs.lemmas.List.{length-append, append-nil}
 use Rattle.container_model.specs.Chunk.{Form, riff, Chunk, spell, spell_all, Pads, PadStands}
 use Rattle.container_model.specs.Items.{is_nil}
-use Rattle.container_model.specs.Splice.{Cut, shift, Outside, Ascend}
+use Rattle.container_model.specs.Splice.{Cut, shift, Outside}
 use Rattle.container_model.specs.Stood.{Stood, bare, stood, only, first_of}
-use Rattle.container_model.proofs.Copied.{old_of, new_of, Goes, moved_to, Moves_as_one, pairs_moved, only-append}
+use Rattle.container_model.proofs.Copied.{moved_to, Moves_as_one, pairs_moved}
 use Rattle.container_model.proofs.Goes.{Block, block_copy, block_both}
-use Rattle.container_model.proofs.Plain.{IsPlain, ArePlain}
-use Rattle.carrier_model.specs.Info.{is_type, list_run}
-use Rattle.avi_model.specs.Avi.{has_id, kids}
-use Rattle.avi_model.specs.Named.{Names, ends_list, is_strl, is_hdrl, list_with, respelled, kids_named, hdrl_named, children_named, Site, hdrl_from, hdrl_cuts}
+use Rattle.container_model.proofs.Plain.{ArePlain}
+use Rattle.carrier_model.specs.Info.{list_run}
+use Rattle.avi_model.specs.Avi.{kids}
+use Rattle.avi_model.specs.Named.{Names, ends_list, is_hdrl, respelled, kids_named, hdrl_named, children_named, Site, hdrl_from, hdrl_cuts}
 use Rattle.avi_model.proofs.Blocks.{block_same, Follows, follow_none, follow_same, follow_wider, follow_both, follow_before, follow_copied, both_fit}
-use Rattle.avi_model.proofs.Respelled.{IsList, respelled_form, respelled_id, respelled_body, respelled_stands, list_type, list_length}
-use Rattle.avi_model.proofs.Streams.{IsKid, AreKids, list_with_plain, none_after, spell_long}
-use Rattle.avi_model.proofs.StreamsGo.{is_index, all_in, hdrl_block, hdrl_follows}
+use Rattle.avi_model.proofs.Respelled.{IsList, respelled_form, respelled_body, respelled_stands, list_type, list_length}
+use Rattle.avi_model.proofs.Streams.{AreKids, list_with_plain, none_after, spell_long}
+use Rattle.avi_model.proofs.StreamsGo.{all_in, hdrl_block, hdrl_follows}
 
 -- what is opened in hdrl: it is read to its end, and so are the streams' lists in it
 abbrev pub Opens : Chunk → Type 0
@@ -91,7 +91,7 @@ module _ (e : Names) where
     where
       go : (t : Bool) → is_hdrl c ≡ t → (is_hdrl c ≡ false → Block (at + length (spell c)) (to + length (spell c)) (at + length (spell c) + length (spell_all cs)) (to + length (spell c) + length (spell_all (children_named e ends_too cs))) (cuts_from ends_too (at + length (spell c)) cs))
           → Block at to (at + length (spell_all (c ∷ cs))) (to + length (spell_all (cond t (hdrl_named e (ends_too && is_nil cs) c ∷ cs) (c ∷ children_named e ends_too cs))))
-            (flat_map (hdrl_cuts e) (cond t (record { at = at; ends = ends_too && is_nil cs; stream = 0; chunk = c } ∷ []) (hdrl_from ends_too (at + length (spell c)) cs)))
+          (flat_map (hdrl_cuts e) (cond t (record { at = at; ends = ends_too && is_nil cs; stream = 0; chunk = c } ∷ []) (hdrl_from ends_too (at + length (spell c)) cs)))
       go true i g =
           let o = h.1.0 i in
           let new = hdrl_named e (ends_too && is_nil cs) c in
@@ -131,7 +131,7 @@ module _ (e : Names) where
     where
       go : (t : Bool) → is_hdrl c ≡ t → (is_hdrl c ≡ false → Follows (cuts_from ends_too (at + length (spell c)) cs) (at + length (spell c)) (to + length (spell c)) (at + length (spell c) + length (spell_all cs)) (only p (stood (at + length (spell c)) cs)) (only p (stood (to + length (spell c)) (children_named e ends_too cs))))
           → Follows (flat_map (hdrl_cuts e) (cond t (record { at = at; ends = ends_too && is_nil cs; stream = 0; chunk = c } ∷ []) (hdrl_from ends_too (at + length (spell c)) cs))) at to (at + length (spell_all (c ∷ cs))) (only p (stood at (c ∷ cs)))
-            (only p (stood to (cond t (hdrl_named e (ends_too && is_nil cs) c ∷ cs) (c ∷ children_named e ends_too cs))))
+          (only p (stood to (cond t (hdrl_named e (ends_too && is_nil cs) c ∷ cs) (c ∷ children_named e ends_too cs))))
       go true i g =
           let o = h.1.0 i in
           let new = hdrl_named e (ends_too && is_nil cs) c in
@@ -175,7 +175,7 @@ module _ (e : Names) where
       go : (t : Bool) → is_hdrl c ≡ t → length (spell_all (cond t (hdrl_named e (ends_too && is_nil cs) c ∷ cs) (c ∷ children_named e ends_too cs))) < 2 ^ 32
           → (is_hdrl c ≡ false → length (spell_all (children_named e ends_too cs)) < 2 ^ 32 → Follows (cuts_from ends_too (at + length (spell c)) cs) (at + length (spell c)) (to + length (spell c)) (at + length (spell c) + length (spell_all cs)) (stream_in (stood (at + length (spell c)) cs)) (stream_in (stood (to + length (spell c)) (children_named e ends_too cs))))
           → Follows (flat_map (hdrl_cuts e) (cond t (record { at = at; ends = ends_too && is_nil cs; stream = 0; chunk = c } ∷ []) (hdrl_from ends_too (at + length (spell c)) cs))) at to (at + length (spell_all (c ∷ cs))) (stream_in (stood at (c ∷ cs)))
-            (stream_in (stood to (cond t (hdrl_named e (ends_too && is_nil cs) c ∷ cs) (c ∷ children_named e ends_too cs))))
+          (stream_in (stood to (cond t (hdrl_named e (ends_too && is_nil cs) c ∷ cs) (c ∷ children_named e ends_too cs))))
       go true i lt again =
           let o = h.1.0 i in
           let new = hdrl_named e (ends_too && is_nil cs) c in

@@ -60,3 +60,4 @@ pub mod Blocks
 pub mod StreamsGo
 pub mod Children
 pub mod NamesSet
+pub mod NamesSpliced

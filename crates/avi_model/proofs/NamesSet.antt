@@ -1,7 +1,7 @@
 -- An edit of the names of a supported file's streams.
 use Rattle.std.proofs.Common.{◌≡◌, ℕ, ◌+◌, ◌^◌, ◌<◌, ◌≤◌, Bool, true, false, cond, List, [], ◌∷◌, ◌++◌, length, map, refl, sym, ap, subst, ◌∙◌, arith, inl, inr}
-use Rattle.std.specs.Prelude.{◌⊎◌, ◌&&◌, filter, not, codes}
-use Rattle.std.specs.List.{flat_map, AllByRecursion}
+use Rattle.std.specs.Prelude.{◌&&◌, filter, not, codes}
+use Rattle.std.specs.List.{flat_map}
 use Rattle.std.proofs.lemmas.List.{length-append, append-nil}
 use Rattle.me_bytes.specs.Bytes.{IsBytes}
 use Rattle.container_model.specs.Chunk.{Chunk, Run, spell, spell_all}
@@ -18,13 +18,13 @@ use Rattle.avi_model.specs.Named.{Names, is_strl, is_hdrl, ends_file, hdrl_named
 use Rattle.avi_model.specs.NamesSet.{NamesSet}
 use Rattle.avi_model.specs.Support.{Supported}
 use Rattle.avi_model.proofs.Among.{Among}
-use Rattle.avi_model.proofs.Blocks.{Follows}
 use Rattle.avi_model.proofs.Children.{Opens, FirstOpens, AreChildren, behind_one, kids_of, children_plain, children_pads, children_seen, children_block, children_follow, streams_follow, moves_with}
 use Rattle.avi_model.proofs.Levels.{Ended, hdrl_whole, strl_whole}
 use Rattle.avi_model.proofs.Lies.{Whole}
+use Rattle.avi_model.proofs.NamesSpliced.{children_spliced}
 use Rattle.avi_model.proofs.Respelled.{IsList, list_plain, list_type, list_length}
 use Rattle.avi_model.proofs.Sound.{ended}
-use Rattle.avi_model.proofs.Streams.{IsKid, AreKids, after, kids_names, hdrl_run, head_placed, spell_long}
+use Rattle.avi_model.proofs.Streams.{AreKids, after, kids_names, hdrl_run, head_placed, spell_long}
 use Rattle.avi_model.proofs.Types.{type_is}
 
 -- ---- what is opened in a supported file
@@ -52,8 +52,11 @@ kids_are at (c ∷ cs) p h = (
 first_opens : (at : ℕ) (cs : List Chunk) → ArePlain cs → ((x : Stood) → Among x (first_of (only is_hdrl (stood at cs))) → Whole x)
     → ((y : Stood) → Among y (only is_strl (flat_map kids (first_of (only is_hdrl (stood at cs))))) → Whole y) → FirstOpens cs
 first_opens at [] p h k = tt
-first_opens at (c ∷ cs) p h k = (here, λ i. first_opens (at + length (spell c)) cs p.1 (λ x j. h x (subst (λ (b : Bool). Among x (first_of (cond b (record { at = at; chunk = bare c } ∷ only is_hdrl (stood (at + length (spell c)) cs)) (only is_hdrl (stood (at + length (spell c)) cs))))) (sym i) j))
-    (λ y j. k y (subst (λ (b : Bool). Among y (only is_strl (flat_map kids (first_of (cond b (record { at = at; chunk = bare c } ∷ only is_hdrl (stood (at + length (spell c)) cs)) (only is_hdrl (stood (at + length (spell c)) cs))))))) (sym i) j)))
+first_opens at (c ∷ cs) p h k = (
+  here,
+  λ i. first_opens (at + length (spell c)) cs p.1 (λ x j. h x (subst (λ (b : Bool). Among x (first_of (cond b (record { at = at; chunk = bare c } ∷ only is_hdrl (stood (at + length (spell c)) cs)) (only is_hdrl (stood (at + length (spell c)) cs))))) (sym i) j))
+      (λ y j. k y (subst (λ (b : Bool). Among y (only is_strl (flat_map kids (first_of (cond b (record { at = at; chunk = bare c } ∷ only is_hdrl (stood (at + length (spell c)) cs)) (only is_hdrl (stood (at + length (spell c)) cs))))))) (sym i) j)),
+)
   where
     here : is_hdrl c ≡ true → Opens c
     here i =
@@ -159,6 +162,7 @@ names_are_set b e bytes s lt =
       names = λ n less. children_names e t 12 12 a.children h lt n less;
       heads = children_heads e t 12 12 a.children h lt;
       others = other_than is_hdrl (children_named e t a.children) ∙ children_seen e (λ c. cond (not (is_hdrl c)) (c ∷ []) []) (λ u c o i. hidden u c o i) t a.children h ∙ sym (other_than is_hdrl a.children);
+      spliced = children_spliced e t 12 a.children h;
       ascend = (children_block e t 12 12 a.children h).ascend;
       indexes = streams.0;
       olds = ap first_of olds.0 ∙ first_map (moved_to (shift cs)) (only (has_id (codes "idx1")) (top a));

@@ -1,19 +1,18 @@
 -- The list of a stream with another name: the name is the one that was set, and all else stands where it stood.
-use Rattle.std.proofs.Common.{◌≡◌, ℕ, zero, suc, Bool, true, false, cond, List, [], ◌∷◌, ◌++◌, map, refl, sym, ap, subst, ◌∙◌}
+use Rattle.std.proofs.Common.{◌≡◌, ℕ, suc, Bool, true, false, cond, List, [], ◌∷◌, ◌++◌, map, refl, sym, ap, subst, ◌∙◌}
 use Rattle.std.specs.Prelude.{◌||◌, filter, codes}
 use Rattle.std.specs.Str.{bytes_eq}
 use Rattle.std.specs.List.{flat_map, list_any}
-use Rattle.std.proofs.lemmas.Bool.{and_parts}
 use Rattle.std.proofs.lemmas.List.{append-nil}
 use Rattle.std.proofs.lemmas.List.Concat.{flat_map-append}
 use Rattle.container_model.specs.Chunk.{Chunk}
 use Rattle.container_model.specs.Deep.{Token, leaf, mark}
-use Rattle.container_model.specs.Items.{is_mark, has_mark, settled_marks}
+use Rattle.container_model.specs.Items.{has_mark, settled_marks}
 use Rattle.container_model.specs.Units.{Cell, kept, gap, edited, live}
 use Rattle.container_model.proofs.Items.{same_true}
-use Rattle.carrier_model.specs.Cells.{change, leave, changed, change_at, counted, settle, settle_cells}
-use Rattle.carrier_model.specs.Info.{is_padding, made, one_of}
-use Rattle.carrier_model.specs.Names.{is_name, heads, is_head, some_head, put_name, nth_name, put_names, name_cells}
+use Rattle.carrier_model.specs.Cells.{change, leave, changed, settle, settle_cells}
+use Rattle.carrier_model.specs.Info.{is_padding}
+use Rattle.carrier_model.specs.Names.{is_name, is_head_id, is_head, some_head, put_name, nth_name, put_names, name_cells}
 use Rattle.carrier_model.proofs.Cells.{live_acted}
 use Rattle.avi_model.specs.Heads.{name_token, is_head_token, put_name_marks, name_marks, place_name}
 use Rattle.avi_model.specs.Named.{cell_by, cell_of}
@@ -153,7 +152,7 @@ marks_there (c ∷ cs) = go (is_padding c) refl (marks_there cs)
     go false e g = one (is_name c) refl g
 
 head_not_name : (c : Chunk) → is_name c ≡ true → is_head c ≡ false
-head_not_name c e = ap (one_of heads) (same_true c.id (codes "strn") e)
+head_not_name c e = ap is_head_id (same_true c.id (codes "strn") e)
 
 heads_there : (cs : List Chunk) → list_any is_head_token (flat_map name_token cs) ≡ list_any is_head (flat_map live (map cell_of cs))
 heads_there [] = refl

@@ -1,31 +1,25 @@
 -- A list with other chunks is read again, and so is the list of a stream with another name.
-use Rattle.std.proofs.Common.{◌≡◌, ℕ, zero, suc, ◌+◌, ◌-◌, ◌%◌, ◌^◌, ◌<◌, ◌≤◌, Bool, true, false, cond, leb, eqb, List, [], ◌∷◌, ◌++◌, length, map, take, drop, refl, sym, ap, subst, ◌∙◌, arith, inl, inr}
-use Rattle.std.specs.Prelude.{◌⊎◌, ◌&&◌, ◌||◌, filter, codes}
+use Rattle.std.proofs.Common.{◌≡◌, ℕ, ◌+◌, ◌-◌, ◌%◌, ◌^◌, ◌<◌, ◌≤◌, Bool, true, false, cond, leb, eqb, List, [], ◌∷◌, ◌++◌, length, map, take, drop, refl, sym, ap, ◌∙◌, arith, inl, inr}
+use Rattle.std.specs.Prelude.{◌&&◌, ◌||◌, codes}
 use Rattle.std.specs.Str.{bytes_eq}
-use Rattle.std.specs.List.{flat_map, list_any, AllByRecursion}
+use Rattle.std.specs.List.{flat_map, AllByRecursion}
 use Rattle.std.proofs.lemmas.Bool.{eqb-true}
 use Rattle.std.proofs.lemmas.List.{length-append, length-take, length-replicate, drop_at, take_at, append-nil}
-use Rattle.std.proofs.lemmas.List.Concat.{flat_map-append}
-use Rattle.container_model.specs.Chunk.{Form, riff, pad_len, Chunk, Run, ends, spell_all, chunks, Pads, PadStands}
+use Rattle.container_model.specs.Chunk.{Form, riff, pad_len, Chunk, ends, spell_all, chunks, Pads, PadStands}
 use Rattle.container_model.specs.Sizes.{plain, riff_front}
-use Rattle.container_model.specs.Units.{Cell, kept, gap, edited, live, padded, shut, units, lay}
-use Rattle.container_model.specs.Stood.{bare}
+use Rattle.container_model.specs.Units.{Cell, live, padded, shut, lay}
 use Rattle.container_model.proofs.Codec.{IsBytes, IsBytes-drop, chunks_pads}
 use Rattle.container_model.proofs.Fronts.{riff_gives_back}
-use Rattle.container_model.proofs.Items.{same_true}
 use Rattle.container_model.proofs.Plain.{IsPlain, ArePlain, plain_again, plain_chunks, plain_left}
 use Rattle.container_model.proofs.Reread.{IsPadded, lay_pads}
 use Rattle.container_model.proofs.Units.{lay_all}
-use Rattle.carrier_model.specs.Cells.{change, changed, change_at, counted, settle, settle_cells}
 use Rattle.carrier_model.specs.Info.{own_size, is_padding, is_type, list_run, made, fill_by, room, riff_fill}
-use Rattle.carrier_model.specs.Names.{is_name, some_head, put_name, nth_name, put_names, name_cells}
-use Rattle.carrier_model.proofs.Cells.{Gaps, live_acted}
+use Rattle.carrier_model.specs.Names.{name_cells}
 use Rattle.carrier_model.proofs.Info.{made_plain, made_padded, fill_all}
 use Rattle.carrier_model.proofs.Names.{gaps_names, cells_names, pads_names}
 use Rattle.carrier_model.proofs.Views.{laid_view}
-use Rattle.avi_model.specs.Named.{cell_by, cell_of, respelled, list_with, ends_list, is_strl, strl_pieces, strl_fill, strl_named}
-use Rattle.avi_model.proofs.Edit.{cells_all, cells_gaps, cells_pads, view_cells}
-use Rattle.avi_model.proofs.Types.{padding_id}
+use Rattle.avi_model.specs.Named.{cell_of, respelled, list_with, ends_list, strl_pieces, strl_fill, strl_named}
+use Rattle.avi_model.proofs.Edit.{cells_all, cells_gaps, cells_pads}
 
 -- ---- a chunk with another body
 

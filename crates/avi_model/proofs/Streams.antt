@@ -1,24 +1,22 @@
 -- hdrl with other names: it is read again, with each stream's list where it stood, and all else.
-use Rattle.std.proofs.Common.{◌≡◌, ℕ, zero, suc, ◌+◌, ◌%◌, ◌^◌, ◌<◌, ◌≤◌, Bool, true, false, cond, List, [], ◌∷◌, ◌++◌, length, map, take, drop, refl, sym, ap, subst, ◌∙◌, arith, inl, inr}
-use Rattle.std.specs.Prelude.{◌⊎◌, ◌&&◌, filter, codes}
+use Rattle.std.proofs.Common.{◌≡◌, ℕ, zero, suc, ◌+◌, ◌^◌, ◌<◌, ◌≤◌, Bool, true, false, cond, List, [], ◌∷◌, ◌++◌, length, map, take, refl, sym, ap, subst, ◌∙◌, arith, inl, inr}
+use Rattle.std.specs.Prelude.{◌&&◌, filter, codes}
 use Rattle.std.specs.List.{flat_map, AllByRecursion}
-use Rattle.std.proofs.lemmas.Bool.{and_parts}
-use Rattle.std.proofs.lemmas.List.{length-append, append-nil}
+use Rattle.std.proofs.lemmas.List.{length-append}
 use Rattle.container_model.specs.Chunk.{Form, riff, Chunk, Run, ends, header_bytes, spell, spell_all, Pads, PadStands}
 use Rattle.container_model.specs.Deep.{Token}
 use Rattle.container_model.specs.Items.{is_nil}
-use Rattle.container_model.specs.Stood.{Stood, bare, stood, only}
-use Rattle.container_model.specs.Units.{live}
+use Rattle.container_model.specs.Stood.{bare, stood, only}
 use Rattle.container_model.proofs.Codec.{as_many}
 use Rattle.container_model.proofs.Plain.{IsPlain, ArePlain}
 use Rattle.carrier_model.specs.Cells.{counted}
 use Rattle.carrier_model.specs.Info.{is_padding, list_run}
 use Rattle.carrier_model.specs.Lists.{Node, list, other}
-use Rattle.carrier_model.specs.Names.{is_name, name_cells}
+use Rattle.carrier_model.specs.Names.{is_name}
 use Rattle.avi_model.specs.Heads.{name_token, strl_tokens, kid_node, head_of, place_name, name_marks, place_names, head_with, names_in, nth_names}
 use Rattle.avi_model.specs.Named.{Names, is_named, names_after, new_names, respelled, list_with, ends_list, is_strl, is_hdrl, strl_named, kid_named, kids_named, hdrl_named}
 use Rattle.avi_model.proofs.Placed.{name_body, bodies_seen, names_set, names_placed}
-use Rattle.avi_model.proofs.Respelled.{IsList, list_plain, list_pads, respelled_form, respelled_id, respelled_body, respelled_stands, list_read, list_type, list_length, made_names, laid_chunks, strl_plain, strl_pads, strl_seen, strl_run}
+use Rattle.avi_model.proofs.Respelled.{IsList, list_pads, respelled_form, respelled_id, respelled_body, respelled_stands, list_read, list_type, list_length, made_names, laid_chunks, strl_seen, strl_run}
 
 -- the chunks of hdrl, of which the streams' lists are read to their end
 pub record IsKid (c : Chunk) : Type 0 where
@@ -167,7 +165,7 @@ module _ (e : Names) where
       let long = length-append (spell one) (spell_all more) in
       ap (λ (b : Bool). nth_names m (cond b (record { at = to; chunk = bare one } ∷ only is_strl (stood (to + length (spell one)) more)) (only is_strl (stood (to + length (spell one)) more)))) (kid_strl (ends_too && is_nil cs) n c h.0)
       ∙ go (is_strl c) refl m less (λ k l. kids_names ends_too (counted is_strl n c) (at + length (spell c)) (to + length (spell one)) cs h.1 (omega (arith, lt, long)) k l)
-        (λ i. kid_names (ends_too && is_nil cs) n at to c h.0 i (omega (arith, lt, long)))
+      (λ i. kid_names (ends_too && is_nil cs) n at to c h.0 i (omega (arith, lt, long)))
     where
       go : (t : Bool) → is_strl c ≡ t → (m : ℕ) → m < length (cond t (record { at = at; chunk = bare c } ∷ only is_strl (stood (at + length (spell c)) cs)) (only is_strl (stood (at + length (spell c)) cs)))
           → ((k : ℕ) → k < length (only is_strl (stood (at + length (spell c)) cs)) → nth_names k (only is_strl (stood (to + length (spell (kid_named e (ends_too && is_nil cs) n c))) (kids_named e ends_too (counted is_strl n c) cs))) ≡ after (counted is_strl n c + k) (nth_names k (only is_strl (stood (at + length (spell c)) cs))))

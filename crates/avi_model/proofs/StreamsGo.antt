@@ -1,31 +1,31 @@
 -- Where the chunks of streams' lists stand when other names are set.
-use Rattle.std.proofs.Common.{◌≡◌, ℕ, ◌+◌, ◌-◌, ◌^◌, ◌<◌, ◌≤◌, Bool, true, false, cond, leb, List, [], ◌∷◌, ◌++◌, length, map, take, drop, refl, sym, ap, subst, ◌∙◌, arith}
+use Rattle.std.proofs.Common.{◌≡◌, ℕ, ◌+◌, ◌^◌, ◌<◌, ◌≤◌, Bool, true, false, cond, leb, List, [], ◌∷◌, ◌++◌, length, map, refl, sym, ap, subst, ◌∙◌, arith}
 use Rattle.std.specs.Prelude.{◌&&◌, ◌||◌, codes}
 use Rattle.std.specs.Int.{w32, to_le_bytes}
 use Rattle.std.specs.Str.{bytes_eq}
-use Rattle.std.specs.List.{flat_map, AllByRecursion}
+use Rattle.std.specs.List.{flat_map}
 use Rattle.std.proofs.lemmas.List.{length-append, length-drop}
 use Rattle.std.proofs.lemmas.List.Concat.{flat_map-append}
 use Rattle.container_model.specs.Chunk.{Chunk, Run, header_bytes, spell, spell_all}
 use Rattle.container_model.specs.Items.{is_nil}
 use Rattle.container_model.specs.Splice.{Cut}
 use Rattle.container_model.specs.Stood.{Stood, bare, stood, only}
-use Rattle.container_model.specs.Units.{Cell, was, shut, units, lay, cuts}
+use Rattle.container_model.specs.Units.{Cell, was, shut, cuts}
 use Rattle.container_model.proofs.Copied.{Unseen, Quiet, Later, only-append}
 use Rattle.container_model.proofs.Goes.{Block, block_copy, block_both, block_pieces, block_cut}
 use Rattle.container_model.proofs.Places.{old_length, Before}
 use Rattle.container_model.proofs.Plain.{IsPlain}
 use Rattle.container_model.proofs.Units.{units_old, units_bring}
 use Rattle.carrier_model.specs.Cells.{counted}
-use Rattle.carrier_model.specs.Info.{is_padding, list_run, made, fill_by, room, riff_fill}
-use Rattle.carrier_model.specs.Names.{is_name, name_cells}
+use Rattle.carrier_model.specs.Info.{is_padding, list_run, fill_by, riff_fill}
+use Rattle.carrier_model.specs.Names.{name_cells}
 use Rattle.carrier_model.specs.RiffForm.{pad_cut}
 use Rattle.carrier_model.proofs.Names.{was_names, quiet_names}
 use Rattle.avi_model.specs.Avi.{has_id, kids}
-use Rattle.avi_model.specs.Named.{Names, is_named, names_after, new_names, cell_by, cell_of, list_with, ends_list, is_strl, is_hdrl, strl_pieces, strl_fill, strl_named, kid_named, kids_named, hdrl_named, Site, sites_from, sites_in, list_pad, strl_cuts, hdrl_cuts}
+use Rattle.avi_model.specs.Named.{Names, is_named, names_after, new_names, cell_by, cell_of, list_with, ends_list, is_strl, strl_pieces, strl_fill, strl_named, kid_named, kids_named, hdrl_named, Site, sites_from, sites_in, strl_cuts, hdrl_cuts}
 use Rattle.avi_model.proofs.Blocks.{block_same, block_pad, Follows, follow_none, follow_same, follow_further, follow_behind, follow_both, follow_before, follow_copied, follow_pieces}
 use Rattle.avi_model.proofs.Lies.{list_joined}
-use Rattle.avi_model.proofs.Respelled.{IsList, respelled_form, respelled_id, list_length, made_names, all_names, laid_chunks, strl_run}
+use Rattle.avi_model.proofs.Respelled.{IsList, list_length, made_names, all_names, laid_chunks, strl_run}
 use Rattle.avi_model.proofs.Streams.{IsKid, AreKids, kid_strl, laid_small, list_with_plain, hdrl_run}
 use Rattle.avi_model.proofs.Tables.{was_cells}
 use Rattle.avi_model.proofs.Types.{padding_id}
@@ -113,7 +113,7 @@ module _ (ends_too : Bool) (vs : List (List ℕ)) (c : Chunk) (plain : IsPlain c
   abbrev new : Chunk
   new = strl_named ends_too (made_names vs) c
 
-  was_is : flat_map was (name_cells (made_names vs) (map cell_of (list_run c).chunks)) ≡ (list_run c).chunks
+  pub was_is : flat_map was (name_cells (made_names vs) (map cell_of (list_run c).chunks)) ≡ (list_run c).chunks
   was_is = was_names (made_names vs) (map cell_of (list_run c).chunks) ∙ was_cells (list_run c).chunks
 
   old_is : old_length (strl_pieces (made_names vs) c) ≡ length (spell_all (list_run c).chunks)
@@ -177,7 +177,7 @@ module _ (e : Names) where
     where
       go : (t : Bool) → is_strl c ≡ t → (u : Bool) → length (spell (cond (t && u) (strl_named ends_too (new_names e n) c) c)) < 2 ^ 32
           → Follows (flat_map (strl_cuts e) (cond (t && u) (record { at = at; ends = ends_too; stream = n; chunk = c } ∷ []) [])) at to (at + length (spell c)) (cond t (only is_index (kids (record { at = at; chunk = bare c }))) [])
-            (cond t (only is_index (kids (record { at = to; chunk = bare (cond (t && u) (strl_named ends_too (new_names e n) c) c) }))) [])
+          (cond t (only is_index (kids (record { at = to; chunk = bare (cond (t && u) (strl_named ends_too (new_names e n) c) c) }))) [])
       go true i true lt =
           subst (λ (cs : List Cut). Follows cs at to (at + length (spell c)) (only is_index (kids (record { at = at; chunk = bare c }))) (only is_index (kids (record { at = to; chunk = bare (strl_named ends_too (new_names e n) c) })))) (sym (Rattle.std.proofs.lemmas.List.append-nil _))
           (strl_follows ends_too (names_after e n []) c h.plain (h.opens i) at to (laid_small e ends_too n c (h.opens i) lt))

@@ -1,13 +1,13 @@
 -- What an edit of names keeps of the lists of streams, in order, and where the names stand in it.
 use Rattle.std.specs.Prelude.{ℕ, zero, suc, filter, List, [], ◌∷◌, ◌++◌, map, Bool, false, codes, if◌then◌else◌}
 use Rattle.std.specs.List.{flat_map, list_any}
-use Rattle.container_model.specs.Chunk.{Form, Chunk}
+use Rattle.container_model.specs.Chunk.{Chunk}
 use Rattle.container_model.specs.Deep.{Token, leaf, mark}
 use Rattle.container_model.specs.Items.{has_mark, settled_marks}
 use Rattle.container_model.specs.Stood.{Stood}
 use Rattle.carrier_model.specs.Lists.{Node, list, sign, other}
-use Rattle.carrier_model.specs.Info.{is_padding, list_run, one_of}
-use Rattle.carrier_model.specs.Names.{is_name, heads}
+use Rattle.carrier_model.specs.Info.{is_padding, list_run}
+use Rattle.carrier_model.specs.Names.{is_name, is_head_id}
 use Rattle.avi_model.specs.Named.{Names, is_named, names_after, is_strl}
 
 -- A name in a stream's list is a bare mark, padding is nothing, and every other chunk has its whole body.
@@ -35,7 +35,7 @@ head_of c = record { nodes = map kid_node (list_run c).chunks; left = (list_run 
 
 -- a chunk behind which a new name stands
 abbrev pub is_head_token : Token → Bool
-is_head_token (leaf form id body) = one_of heads id
+is_head_token (leaf form id body) = is_head_id id
 is_head_token t = false
 
 -- a new name stands behind the last one, or first

@@ -2,8 +2,7 @@
 -- slots, padding and pads are this project's own).
 use Rattle.std.specs.Prelude.{ℕ, ◌+◌, ◌%◌, ◌==◌, List, [], ◌∷◌, ◌++◌, length, take, map, Bool, true, false, ◌&&◌, Option, codes, if◌then◌else◌}
 use Rattle.std.specs.Int.{w32, to_le_bytes}
-use Rattle.std.specs.List.{flat_map, list_any, list_all}
-use Rattle.part_tree.specs.declared.plan.Patch.{Patch}
+use Rattle.std.specs.List.{flat_map, list_any}
 use Rattle.container_model.specs.Chunk.{riff, Chunk, spell, spell_all}
 use Rattle.container_model.specs.Items.{is_nil, listed}
 use Rattle.container_model.specs.Splice.{Cut}
@@ -13,7 +12,6 @@ use Rattle.carrier_model.specs.Info.{is_padding, is_type, list_run, made, riff_f
 use Rattle.carrier_model.specs.Names.{name_cells}
 use Rattle.carrier_model.specs.RiffForm.{RiffForm, pad_cut}
 use Rattle.carrier_model.specs.RiffForm as form
-use Rattle.carrier_model.specs.Room.{patch, unit_patches, units_fit}
 use Rattle.avi_model.specs.Avi.{Avi, behind}
 
 -- ---- an edit of names

@@ -1,5 +1,5 @@
 -- What an edit of the names in a stream's list leaves of its cells.
-use Rattle.std.proofs.Common.{◌≡◌, ℕ, zero, suc, Bool, true, false, cond, List, [], ◌∷◌, ◌++◌, refl, sym, ap, ◌∙◌}
+use Rattle.std.proofs.Common.{◌≡◌, ℕ, zero, suc, Bool, true, false, cond, List, [], ◌∷◌, ◌++◌, refl, ap}
 use Rattle.std.specs.List.{flat_map, list_any, AllByRecursion}
 use Rattle.container_model.specs.Chunk.{Chunk}
 use Rattle.container_model.specs.Stood.{bare}
@@ -10,7 +10,7 @@ use Rattle.container_model.proofs.Units.{AllCells}
 use Rattle.carrier_model.specs.Cells.{change, settle_cells}
 use Rattle.carrier_model.specs.Names.{is_name, some_head, put_name, nth_name, put_names, name_cells}
 use Rattle.carrier_model.proofs.Cells.{Gaps, Makes, was_acted, gaps_acted, cells_acted, pads_acted}
-use Rattle.carrier_model.proofs.Quiet.{QuietAct, Settles, quiet_acted}
+use Rattle.carrier_model.proofs.Quiet.{QuietAct, quiet_acted}
 
 -- ---- a new name
 

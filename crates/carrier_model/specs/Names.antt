@@ -1,23 +1,22 @@
 -- The names of a stream among the chunks of its list (AVI RIFF File Reference, strl; that an edit leaves one is this project's own).
-use Rattle.std.specs.Prelude.{ℕ, zero, suc, List, [], ◌∷◌, Bool, codes, if◌then◌else◌}
+use Rattle.std.specs.Prelude.{ℕ, zero, suc, List, [], ◌∷◌, Bool, ◌||◌, codes, if◌then◌else◌}
 use Rattle.std.specs.List.{flat_map, list_any}
 use Rattle.std.specs.Str.{bytes_eq}
 use Rattle.container_model.specs.Chunk.{Chunk}
 use Rattle.container_model.specs.Units.{Cell, edited, live}
-use Rattle.carrier_model.specs.Info.{one_of}
 use Rattle.carrier_model.specs.Cells.{Change, become, settle_cells}
 
 -- a name
 abbrev pub is_name : Chunk → Bool
 is_name c = bytes_eq c.id (codes "strn")
 
--- the identifiers of the chunks behind which a new name stands
-abbrev pub heads : List (List ℕ)
-heads = codes "strh" ∷ codes "strf" ∷ codes "strd" ∷ []
+-- the identifier of a chunk behind which a new name stands
+abbrev pub is_head_id : List ℕ → Bool
+is_head_id id = bytes_eq id (codes "strh") || (bytes_eq id (codes "strf") || bytes_eq id (codes "strd"))
 
 -- a chunk behind which a new name stands
 abbrev pub is_head : Chunk → Bool
-is_head c = one_of heads c.id
+is_head c = is_head_id c.id
 
 -- whether such a chunk is among some cells
 abbrev pub some_head : List Cell → Bool

@@ -1,14 +1,14 @@
 -- Where chunks go in bytes of which several ranges are edited, each on its own: ranges that follow each other, and the chunks in
 -- them.
-use Rattle.std.proofs.Common.{◌≡◌, ℕ, ◌+◌, ◌<◌, ◌≤◌, Bool, true, false, leb, List, [], ◌∷◌, ◌++◌, length, map, refl, sym, ap, ◌∙◌, arith, inl, inr}
+use Rattle.std.proofs.Common.{◌≡◌, ℕ, ◌+◌, ◌<◌, ◌≤◌, Bool, false, leb, List, [], ◌∷◌, ◌++◌, length, map, refl, sym, ap, ◌∙◌, arith, inl, inr}
 use Rattle.std.specs.Prelude.{◌⊎◌}
 use Rattle.std.specs.List.{flat_map, AllByRecursion}
 use Rattle.std.proofs.lemmas.Bool.{lt-leb, cases_lt}
 use Rattle.container_model.specs.Chunk.{Chunk, spell, spell_all}
-use Rattle.container_model.specs.Splice.{Cut, end_of, Ascend, gained, lost, shift, Outside}
-use Rattle.container_model.specs.Stood.{Stood, stood, only}
+use Rattle.container_model.specs.Splice.{Cut, end_of, Ascend, gained, lost, Outside}
+use Rattle.container_model.specs.Stood.{stood, only}
 use Rattle.container_model.specs.Units.{Cell, Piece, Fill, was, shut, units, lay, cuts}
-use Rattle.container_model.proofs.Copied.{Pair, old_of, new_of, only_pairs, pairs, Unseen, Quiet, Later, Goes, quiet_units, new_stood, old_stood, pairs_go, All-kept, All-steps}
+use Rattle.container_model.proofs.Copied.{Pair, old_of, new_of, only_pairs, pairs, Unseen, Quiet, Later, Goes, quiet_units, new_stood, old_stood, pairs_go, All-kept}
 use Rattle.container_model.proofs.Places.{old_length, Before, cuts_ascend, past_moves}
 use Rattle.container_model.proofs.Splice.{before_lost, lost_low}
 use Rattle.container_model.proofs.Units.{BringsPad, units_bring}
