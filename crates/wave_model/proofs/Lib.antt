@@ -29,3 +29,4 @@ pub mod Kind
 pub mod Twin
 mod WideRows
 pub mod WideCuts
+pub mod WideField

@@ -23,7 +23,7 @@ use Rattle.wave_model.specs.New.{ends_file, fill_of, pieces_of, new_children, ne
 use Rattle.wave_model.specs.Edited.{Supported}
 use Rattle.wave_model.specs.Widen.{reserved, widened_data, widened_wave, field_cut, field_cuts, wide_cuts, widened_cuts}
 use Rattle.wave_model.proofs.Again.{spelled}
-use Rattle.wave_model.proofs.Acts.{IsMade, all_made, all_pass}
+use Rattle.wave_model.proofs.Acts.{IsMade, all_made, all_pass, other_id}
 use Rattle.wave_model.proofs.Cells.{was_cells, now_cells}
 use Rattle.wave_model.proofs.Edited.{kind_len}
 use Rattle.wave_model.proofs.Few.{Silent, made_silent}
@@ -343,12 +343,13 @@ module _ (o : List ℕ) (bytes : IsBytes o) (sup : Supported o) (narrow : is_big
     fine : PiecesFine (drop (length js) (pieces_of w e))
     old : flat_map old_bytes (pieces_of w e) ≡ spell_all js ++ flat_map old_bytes (drop (length js) (pieces_of w e))
     new : drop (length js) (new_children w e) ≡ lay (fill_of w) (drop (length js) (pieces_of w e))
+    same : wide_cuts (fill_of w) (12 + length (spell_all js)) (drop (length js) (pieces_of w e)) ≡ wide_cuts (fill_of w) 12 (pieces_of w e)
 
   behind : Behind js
   behind = go (reserved_stays o bytes sup narrow e)
     where
       go : (js ≡ []) ⊎ Stays o bytes sup narrow js (new_children w e) → Behind js
-      go (inl i) = subst Behind (sym i) (record { fine = all_fine; old = refl; new = refl })
+      go (inl i) = subst Behind (sym i) (record { fine = all_fine; old = refl; new = refl; same = refl })
       go (inr s) =
           let j = s.junk in
           let first : FirstKept j ys = first_kept (wave_of o).children refl s.js_is in
@@ -358,8 +359,15 @@ module _ (o : List ℕ) (bytes : IsBytes o) (sup : Supported o) (narrow : is_big
             fine = subst (λ (qs : List Piece). PiecesFine (drop 1 qs)) (sym ps) fine.1;
             old = ap (flat_map old_bytes) ps ∙ ap (λ (x : List ℕ). x ++ flat_map old_bytes (units shut first.0)) (sym (append-nil (spell j))) ∙ ap (λ (qs : List Piece). (spell j ++ []) ++ flat_map old_bytes (drop 1 qs)) (sym ps);
             new = ap (λ (qs : List Piece). drop 1 (lay (fill_of w) qs)) ps ∙ ap (λ (qs : List Piece). lay (fill_of w) (drop 1 qs)) (sym ps);
+            same = ap (λ (qs : List Piece). wide_cuts (fill_of w) (12 + length (spell j ++ [])) (drop 1 qs)) ps
+                ∙ ap (λ (x : List ℕ). wide_cuts (fill_of w) (12 + length x) (units shut first.0)) (append-nil (spell j))
+                ∙ sym (ap (λ (cs : List Cut). cs ++ wide_cuts (fill_of w) (12 + length (spell j)) (units shut first.0)) (no_field j s.is_junk))
+                ∙ sym (ap (wide_cuts (fill_of w) 12) ps);
           })
         where
+          no_field : (j : Chunk) → Rattle.wave_model.specs.Widen.is_reserved j ≡ true → field_cut 12 j ≡ []
+          no_field j r = cond-false (has_id (codes "data") j) _ [] (other_id (codes "data") j refl (and_parts (Rattle.carrier_model.specs.Info.is_padding j) _ r).0)
+
           first_kept : (cs : List Chunk) → w.children ≡ cs → reserved cs ≡ s.junk ∷ [] → FirstKept s.junk ys
           first_kept [] i r = absurd cc
           first_kept (c ∷ cs) i r = by (Rattle.wave_model.specs.Widen.is_reserved c) refl r
@@ -371,6 +379,10 @@ module _ (o : List ℕ) (bytes : IsBytes o) (sup : Supported o) (narrow : is_big
                   let p : Rattle.carrier_model.specs.Info.is_padding c ≡ true = (and_parts (Rattle.carrier_model.specs.Info.is_padding c) _ x).0 in
                   let cells : cells_of w ≡ kept c ∷ map cell_of cs = ap (λ (ds : List Chunk). cells_behind ds w.children) (no_ds64 o bytes sup narrow) ∙ ap (cells_behind []) i in
                   subst (λ (d : Chunk). FirstKept d ys) same (first_carried c (steps e) (all_pass e c p) (cells_of w) (map cell_of cs, cells))
+
+  -- Behind a reserved JUNK the spans are those of all pieces.
+  pub behind_same : wide_cuts (fill_of w) (12 + length (spell_all js)) (drop (length js) (pieces_of w e)) ≡ wide_cuts (fill_of w) 12 (pieces_of w e)
+  behind_same = behind.same
 
   abbrev ps : List Piece
   ps = drop (length (reserved (wave_of o).children)) (pieces_of (wave_of o) e)
