@@ -30,3 +30,4 @@ pub mod Twin
 mod WideRows
 pub mod WideCuts
 pub mod WideField
+pub mod WideTold

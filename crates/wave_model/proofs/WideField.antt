@@ -17,15 +17,15 @@ use Rattle.carrier_model.proofs.Steps.{NowCells, gaps_carried, live_carried, now
 use Rattle.wave_model.specs.Wave.{is_big, Wave, wave_of, cells_of}
 use Rattle.wave_model.specs.Fields.{has_id, body_in}
 use Rattle.wave_model.specs.Carry.{steps}
-use Rattle.wave_model.specs.New.{fill_of, pieces_of, children_at}
+use Rattle.wave_model.specs.New.{fill_of, pieces_of, new_children, children_at}
 use Rattle.wave_model.specs.Map.{body_span, sound_from, sound}
 use Rattle.wave_model.specs.Edited.{Supported, sounds}
-use Rattle.wave_model.specs.Widen.{reserved, field_cut, field_cuts, wide_cuts}
+use Rattle.wave_model.specs.Widen.{reserved, first_len, field_cut, field_cuts, wide_cuts}
 use Rattle.wave_model.proofs.Acts.{IsMade, all_made, other_id}
 use Rattle.wave_model.proofs.Cells.{was_cells, now_cells, gaps_cells}
 use Rattle.wave_model.proofs.Few.{Silent, made_silent}
 use Rattle.wave_model.proofs.New.{ListsSmall, old_live, old_seen}
-use Rattle.wave_model.proofs.Edited.{not_padding}
+use Rattle.wave_model.proofs.Edited.{not_padding, same_sounds}
 use Rattle.wave_model.proofs.Values.{ItemsFine, sound_bodies}
 use Rattle.wave_model.proofs.Widened.{PlainChunk, no_ds64, cells_plain}
 use Rattle.wave_model.proofs.WideCuts.{NoData, head_len, behind_same}
@@ -353,3 +353,14 @@ module _ (o : List ℕ) (bytes : IsBytes o) (sup : Supported o) (narrow : is_big
       ∙ subst (λ (zs : List Cell). wide_cuts (fill_of w) 12 (units shut zs) ≡ put_cut (field_of at) (cuts (fill_of w) 12 (units shut zs))) (sym found.cells_are) among
       ∙ ap (λ (k : ℕ). put_cut (record { at = k; len = 4; bytes = 255 ∷ 255 ∷ 255 ∷ 255 ∷ [] }) (cuts (fill_of w) 12 (pieces_of w e))) (sym place)
       ∙ ap (λ (k : ℕ). put_cut (record { at = (sound o).at - 4; len = 4; bytes = 255 ∷ 255 ∷ 255 ∷ 255 ∷ [] }) (cuts (fill_of w) k (pieces_of w e))) (sym first)
+
+  -- The first sound of the new form is as long as it stands in the file.
+  pub sound_len : first_len (sounds (new_children w e)) ≡ (sound o).len
+  sound_len =
+      let d = found.chunk in
+      let olds : w.children ≡ flat_map was found.before ++ d ∷ flat_map was found.after = sym (ap (flat_map was) (sym found.cells_are) ∙ was_carried (steps e) (cells_of w) ∙ was_cells w.ds64 w.children) ∙ was_split found.before d found.after in
+      ap first_len (same_sounds o bytes sup e f small ∙ ap sounds olds) ∙ behind (flat_map was found.before) d (flat_map was found.after) found.old_quiet found.is_data ∙ sym (ap (λ (s : Span). s.len) sound_is)
+    where
+      behind : (a : List Chunk) (d : Chunk) (cs : List Chunk) → AllByRecursion NoData a → has_id (codes "data") d ≡ true → first_len (sounds (a ++ d ∷ cs)) ≡ length d.body
+      behind [] d cs n e = ap (λ (x : List (List ℕ)). first_len (x ++ sounds cs)) (cond-true (has_id (codes "data") d) (d.body ∷ []) [] e)
+      behind (c ∷ a) d cs n e = ap (λ (x : List (List ℕ)). first_len (x ++ sounds (a ++ d ∷ cs))) (cond-false (has_id (codes "data") c) (c.body ∷ []) [] n.0) ∙ behind a d cs n.1 e
