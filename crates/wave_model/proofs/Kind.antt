@@ -18,7 +18,7 @@ use Rattle.wave_model.specs.New.{new_children, new_size, new_wave, new_file}
 use Rattle.wave_model.specs.Large.{form_sizes, large_by, too_large}
 use Rattle.wave_model.specs.Room.{has_room, patches_in, patches}
 use Rattle.wave_model.specs.Edited.{parts, pieces_in, kept_in, kept_of, Supported}
-use Rattle.wave_model.specs.Widen.{is_reserved, reserved, widened_wave, widens_by, widens, wave_by, wave_after, file_after, large_after_by, large_after, room_after, placed_by, WidenedJunk, JunkBy, cuts_widened}
+use Rattle.wave_model.specs.Widen.{is_reserved, reserved, widened_wave, widens_by, widens, wave_by, wave_after, file_after, sizes_in, large_after_by, large_after, room_after, placed_by, WidenedJunk, JunkBy, cuts_widened}
 use Rattle.container_model.specs.Splice.{splice, Ascend}
 use Rattle.wave_model.specs.Kind.{wave_kind}
 use Rattle.wave_model.proofs.Items.{items_fine}
@@ -89,6 +89,7 @@ module _ (o : List ℕ) (e : List EditItem) where
   pub record Widening : Type 0 where
     pub narrow : is_big (take 4 o) ≡ false
     pub some : effective (fields o) e ≡ [] → ⊥
+    pub large : nat_lt (2 ^ 32 - 1) (new_size (wave_of o) (raw_items (fields o) e)) ≡ true
 
   pub widening : widens o e ≡ true → Widening
   widening t = go (effective (fields o) e) refl t
@@ -101,10 +102,18 @@ module _ (o : List ℕ) (e : List EditItem) where
       go [] i x = absurd cc
       go (j ∷ is) i x =
           let p = and_parts (not (is_big (take 4 o))) (nat_lt (2 ^ 32 - 1) (new_size (wave_of o) (raw_items (fields o) e))) x in
-          record { narrow = no (is_big (take 4 o)) p.0; some = λ none. some_none j is (sym i ∙ none) }
+          record { narrow = no (is_big (take 4 o)) p.0; some = λ none. some_none j is (sym i ∙ none); large = p.1 }
         where
           some_none : (j : EditItem) (is : List EditItem) → j ∷ is ≡ [] → ⊥
           some_none j is x = absurd cc
+
+  -- what is too large then
+  pub wide_large : widens o e ≡ true → large_after o e ≡ first_above (sizes_in v)
+  wide_large t = ap (λ (u : Bool). large_after_by (effective (fields o) e) (wave_by u (wave_of o) (raw_items (fields o) e))) t ∙ go (effective (fields o) e) refl
+    where
+      go : (is : List EditItem) → effective (fields o) e ≡ is → large_after_by is v ≡ first_above (sizes_in v)
+      go [] i = absurd ((widening t).some i)
+      go (j ∷ is) i = refl
 
   wide_fits : widens o e ≡ true → large_after o e ≡ None → FitsWide v
   wide_fits t l = go (effective (fields o) e) refl (ap (λ (u : Bool). large_after_by (effective (fields o) e) (wave_by u (wave_of o) (raw_items (fields o) e))) (sym t) ∙ l)

@@ -443,6 +443,15 @@ module _ (o : List ℕ) (bytes : IsBytes o) (sup : Supported o) (narrow : is_big
       together : (d c l p t : List ℕ) → (codes "RF64" ++ ones) ++ (codes "WAVE" ++ (d ++ (c ++ (l ++ (p ++ t))))) ≡ ((codes "RF64" ++ ones) ++ ((codes "WAVE" ++ (d ++ (c ++ l))) ++ p)) ++ t
       together d c l p t = simp append_assoc
 
+  -- The spans of the header, of ds64 and of the units ascend with those behind the form.
+  pub heads_ascend : (more : List Cut) → Ascend (8 + length (inner w)) more (length o)
+      → Ascend 0 (record { at = 0; len = 8; bytes = codes "RF64" ++ ones } ∷ (record { at = 12; len = length (spell_all js); bytes = spell_all v.ds64 } ∷ (wide_cuts (fill_of w) at ps ++ more))) (length o)
+  heads_ascend more h = (omega arith, (omega arith, wide_ascends (ends_file w) at ps more (length o) behind.fine (low more h)))
+    where
+      low : (cs : List Cut) → Ascend (8 + length (inner w)) cs (length o) → Ascend (at + length (flat_map old_bytes ps)) cs (length o)
+      low [] g = omega (arith, ends, g)
+      low (c ∷ cs) g = (omega (arith, ends, g.0), g.1)
+
   -- These spans ascend, are disjoint and lie in the old file.
   pub widened_ascend : Ascend 0 (widened_cuts js w e) (length o)
   widened_ascend =
@@ -450,4 +459,4 @@ module _ (o : List ℕ) (bytes : IsBytes o) (sup : Supported o) (narrow : is_big
       let size : length o ≡ 8 + (k + (length w.pad + length w.tail))
       = ap length (spelled_is o bytes sup ∙ spelled w (old_form o bytes sup))
       ∙ omega (arith, kind_len (take 4 o) sup.form_id, field_len w.form k, length-append w.id (field_of w.form k ++ (inner w ++ (w.pad ++ w.tail))), length-append (field_of w.form k) (inner w ++ (w.pad ++ w.tail)), length-append (inner w) (w.pad ++ w.tail), length-append w.pad w.tail) in
-      (omega arith, (omega arith, wide_ascends (ends_file w) at ps last (length o) behind.fine (pad_ascends (at + length (flat_map old_bytes ps)) (8 + k) (length o) w.pad v.pad (omega (arith, ends)) (omega (arith, size)))))
+      heads_ascend last (pad_ascends (8 + k) (8 + k) (length o) w.pad v.pad (omega arith) (omega (arith, size)))

@@ -198,7 +198,7 @@ module _ (o : List ℕ) (bytes : IsBytes o) (sup : Supported o) (narrow : is_big
   no_table : sizes_of o ≡ plain
   no_table = cond-false (is_big (take 4 o)) _ plain narrow
 
-  riff_small : length (inner (wave_of o)) < 2 ^ 32
+  pub riff_small : length (inner (wave_of o)) < 2 ^ 32
   riff_small = go (wave_of o).form (form_fine o bytes sup)
     where
       go : (form : Form) → FormFine form (wave_of o).id (length (inner (wave_of o))) → length (inner (wave_of o)) < 2 ^ 32

@@ -48,9 +48,23 @@ abbrev pub ds64_by : Widening → Option ℕ → ℕ → CutAt
 ds64_by w None size = record { span = record { at = 12; len = 0 }; bytes = ds64_spelled w 28 size; keep = 0 }
 ds64_by w (Some n) size = record { span = record { at = 12; len = 8 + n + n % 2 }; bytes = ds64_spelled w n size; keep = n % 2 }
 
+-- how many parts more a form has with its ds64, and how many bytes
+abbrev pub more_parts : Option ℕ → ℕ
+more_parts None = 1
+more_parts (Some n) = 0
+
+abbrev pub more_bytes : Option ℕ → ℕ
+more_bytes None = 36
+more_bytes (Some n) = 0
+
 -- the span of ds64
 abbrev pub ds64_at : Widening → ℕ → CutAt
 ds64_at w size = ds64_by w w.reserved size
+
+-- how many spans begin at a place or before it, before the first one that begins behind it
+abbrev pub place_in : ℕ → List CutAt → ℕ
+place_in at [] = 0
+place_in at (c ∷ cs) = if nat_le c.span.at at then 1 + place_in at cs else 0
 
 -- one span more among others, behind those that begin where it does or before
 abbrev pub with_cut : CutAt → List CutAt → List CutAt

@@ -1,5 +1,5 @@
 // A RIFF form that becomes RF64: what stands in its header, its `ds64` and the size of its `data`.
-ghost use Rattle.std.specs.Prelude.{◌≡◌, ◌≤◌, ◌<◌, ◌+◌, ◌-◌, ◌++◌, ◌∷◌, ◌^◌, ◌↔◌, true, ℕ, List, IfOk, IfSome, OnOk, IsTrue, IsNone, length, codes};
+ghost use Rattle.std.specs.Prelude.{◌≡◌, ◌≤◌, ◌+◌, ◌/◌, ◌++◌, ◌^◌, ◌↔◌, true, ℕ, List, IfOk, OnOk, IsTrue, length, codes};
 ghost use Rattle.std.specs.Int.{w32, to_le_bytes};
 ghost use Rattle.me_bytes.specs.Bytes.{IsBytes};
 ghost use Rattle.part_tree.specs.declared.field.EditItem.{EditItem};
@@ -12,7 +12,7 @@ ghost use Rattle.wave_model.specs.New.{new_size_of};
 ghost use Rattle.wave_model.specs.Widen.{ds64_body, widens};
 ghost use Rattle.wave_plan.specs.Frame.{IsFrame};
 ghost use Rattle.wave_plan.specs.Planned.{ComesTo, IsListed, StandsIn};
-ghost use Rattle.wave_plan.specs.Widened.{FitsReserved, IsWideningOf, ds64_at, field_at, front_at, widened, with_cut};
+ghost use Rattle.wave_plan.specs.Widened.{FitsReserved, IsWideningOf, ds64_at, field_at, front_at, more_bytes, more_parts, place_in, widened, with_cut};
 
 use crate::frame::Frame;
 use crate::framed::pad_cut;
@@ -122,18 +122,30 @@ fn field_cut(alloc: Global, widening: &Widening) -> Result<CutAt, NoMemory>
     })
 }
 
+// How many spans begin at a byte or before it, before the first one that begins behind it.
+fn place_of(cuts: &[CutAt], at: u64) -> usize
+    ensures place { result ≡ place_in at cuts.now }
+    ensures inside { result ≤ length cuts.now }
+{
+    let mut place = 0;
+    'cuts: for cut in cuts {
+        if cut.span.at > at {
+            return place;
+        }
+        place += 1;
+    }
+    place
+}
+
 // One span more among others: behind those that begin where it does or before.
 fn put_cut(cuts: &mut Vec<CutAt>, cut: CutAt) -> Result<(), NoMemory>
     ensures { OnOk result (cuts.new.items ≡ with_cut cut cuts.old.items) }
 {
-    let mut place = 0;
-    'cuts: while place < cuts.len() && cuts[place].span.at <= cut.span.at {
-        place += 1;
+    let place = place_of(cuts, cut.span.at);
+    if cuts.insert(place, cut).is_err() {
+        return Err(NoMemory);
     }
-    match cuts.insert(place, cut) {
-        Err(_) => Err(NoMemory),
-        Ok(()) => Ok(()),
-    }
+    Ok(())
 }
 
 // The spans of an edit that makes a form RF64: of the header, of `ds64`, of the units with the size of `data`, and of the form's
@@ -187,6 +199,24 @@ fn ascends(cuts: &[CutAt], len: u64) -> bool
     at <= len
 }
 
+// How many parts more there are with `ds64`.
+fn more_parts(reserved: Option<u64>) -> u64
+    ensures { result ≡ more_parts reserved }
+{
+    if reserved.is_some() { 0 } else { 1 }
+}
+
+// How many bytes more the form has with `ds64`.
+fn more_bytes(reserved: Option<u64>) -> u64
+    ensures { result ≡ more_bytes reserved }
+{
+    if reserved.is_some() {
+        0
+    } else {
+        8 + LEAST_DS64
+    }
+}
+
 /// The plan of an edit that makes a RIFF form RF64, by what its units come to: without the change of the form, it would have `size`
 /// bytes. `TooLarge` is the first of these that passes its limit: the parts and the file.
 pub fn plan_widened(
@@ -209,11 +239,7 @@ pub fn plan_widened(
         fits: _,
         parts,
     } = units;
-    let (more_parts, more_bytes) = match widening.reserved {
-        None => (1, 8 + LEAST_DS64),
-        Some(_) => (0, 0),
-    };
-    let Some(parts) = parts.checked_add(more_parts) else {
+    let Some(parts) = parts.checked_add(more_parts(widening.reserved)) else {
         return Err(PlanFault::Memory);
     };
     if parts > MOST_PARTS {
@@ -222,7 +248,7 @@ pub fn plan_widened(
             limit: MOST_PARTS,
         });
     }
-    let Some(riff_size) = size.checked_add(more_bytes) else {
+    let Some(riff_size) = size.checked_add(more_bytes(widening.reserved)) else {
         return Err(PlanFault::Memory);
     };
     let cuts = match widened_cuts(alloc, frame, widening, size, riff_size, cuts) {
