@@ -34,7 +34,7 @@ use Rattle.wave_plan.specs.Planned.{ComesTo, IsListed, StandsIn, list_sizes, siz
 use Rattle.wave_plan.proofs.Numbers.{framed_ascend}
 use Rattle.wave_plan.proofs.Told.{fits_are, makes_new, parts_told, patches_told}
 
-above_none : (a b : List Size) → first_above a ≡ None → first_above (a ++ b) ≡ first_above b
+pub above_none : (a b : List Size) → first_above a ≡ None → first_above (a ++ b) ≡ first_above b
 above_none [] b e = refl
 above_none (s ∷ a) b e = go (is_above s) refl (above_none a b)
   where

@@ -5,3 +5,4 @@ pub mod Answered
 pub mod Rowed
 pub mod Placed
 pub mod Widened
+pub mod Stays

@@ -191,6 +191,20 @@ pub file_long : (b : List ℕ) → IsBytes b → Supported b → length b ≡ 8 
 file_long b bytes sup =
     omega (arith, long_file b sup, ap length (behind_body b bytes sup), length-drop 8 b, length-append (inner (wave_of b)) ((wave_of b).pad ++ (wave_of b).tail), length-append (wave_of b).pad (wave_of b).tail)
 
+-- what stands behind ds64
+pub behind_chunks : (b : List ℕ) → IsBytes b → Supported b → drop (children_at (wave_of b)) b ≡ spell_all (wave_of b).children ++ ((wave_of b).left ++ ((wave_of b).pad ++ (wave_of b).tail))
+behind_chunks b bytes sup =
+    let v = wave_of b in
+    let at = children_at v in
+    let front = codes "WAVE" ++ spell_all v.ds64 in
+    let after = spell_all v.children ++ (v.left ++ (v.pad ++ v.tail)) in
+    let place : at ≡ 8 + (at - 8) = omega arith in
+    let size : length front ≡ at - 8 = omega (arith, length-append (codes "WAVE") (spell_all v.ds64)) in
+    ap (λ (n : ℕ). drop n b) place ∙ sym (drop-drop (at - 8) 8 b) ∙ ap (drop (at - 8)) (behind_body b bytes sup ∙ regroup (spell_all v.ds64) (spell_all v.children) v.left (v.pad ++ v.tail)) ∙ drop_at front after (at - 8) size
+  where
+    regroup : (d c l t : List ℕ) → (codes "WAVE" ++ (d ++ (c ++ l))) ++ t ≡ (codes "WAVE" ++ d) ++ (c ++ (l ++ t))
+    regroup d c l t = simp append_assoc
+
 module _ (b : List ℕ) (e : List EditItem) (bytes : IsBytes b) (sup : Supported b) (f : Frame) (fr : IsFrame b f) (u : UnitCuts) (comes : ComesTo b e u) (st : StandsIn f u) where
   whole : SpansAscend 0 u.cuts.items f.len
   whole = whole_ascend f u st
@@ -227,19 +241,8 @@ module _ (b : List ℕ) (e : List EditItem) (bytes : IsBytes b) (sup : Supported
   tail_long = omega (arith, fr.len, fr.size, fr.pad, file_long b bytes sup)
 
   -- the file, cut where the chunks behind ds64 begin
-  pub behind_front : drop (children_at (wave_of b)) b ≡ flat_map old_bytes (pieces_of (wave_of b) (raw_items (fields b) e)) ++ ((wave_of b).left ++ ((wave_of b).pad ++ (wave_of b).tail))
-  behind_front =
-      let v = wave_of b in
-      let at = children_at v in
-      let front = codes "WAVE" ++ spell_all v.ds64 in
-      let after = spell_all v.children ++ (v.left ++ (v.pad ++ v.tail)) in
-      let place : at ≡ 8 + (at - 8) = omega arith in
-      let size : length front ≡ at - 8 = omega (arith, length-append (codes "WAVE") (spell_all v.ds64)) in
-      ap (λ (n : ℕ). drop n b) place ∙ sym (drop-drop (at - 8) 8 b) ∙ ap (drop (at - 8)) (behind_body b bytes sup ∙ regroup (spell_all v.ds64) (spell_all v.children) v.left (v.pad ++ v.tail))
-      ∙ drop_at front after (at - 8) size ∙ ap (λ (x : List ℕ). x ++ (v.left ++ (v.pad ++ v.tail))) (sym old_is)
-    where
-      regroup : (d c l t : List ℕ) → (codes "WAVE" ++ (d ++ (c ++ l))) ++ t ≡ (codes "WAVE" ++ d) ++ (c ++ (l ++ t))
-      regroup d c l t = simp append_assoc
+  behind_front : drop (children_at (wave_of b)) b ≡ flat_map old_bytes (pieces_of (wave_of b) (raw_items (fields b) e)) ++ ((wave_of b).left ++ ((wave_of b).pad ++ (wave_of b).tail))
+  behind_front = behind_chunks b bytes sup ∙ ap (λ (x : List ℕ). x ++ ((wave_of b).left ++ ((wave_of b).pad ++ (wave_of b).tail))) (sym old_is)
 
   -- the file with the units' spans replaced
   units_spliced : splice b (map (cut_in b) u.cuts.items) ≡ take (children_at (wave_of b)) b ++ (spell_all (new_children (wave_of b) (raw_items (fields b) e)) ++ ((wave_of b).left ++ ((wave_of b).pad ++ (wave_of b).tail)))
