@@ -273,7 +273,7 @@ module _ (o : List ℕ) (bytes : IsBytes o) (sup : Supported o) (narrow : is_big
   -- ---- all new chunks are of their own size
 
   module _ (e : List RawItem) (f : ItemsFine e) (small : ListsSmall (wave_of o) e) where
-    old_plain : AllByRecursion PlainChunk (wave_of o).children
+    pub old_plain : AllByRecursion PlainChunk (wave_of o).children
     old_plain = all_three (most (sizes_of o)) (wave_of o).children old_read (plain_forms (sizes_of o) no_table (wave_of o).children (old_state o bytes sup e f small)) small_bodies
 
     filled : (end last : Bool) (slot : List ℕ) (n : ℕ) → AllByRecursion PlainChunk (riff_fill end last slot n)

@@ -1,6 +1,6 @@
 -- Whether a form becomes RF64; and one that doesn't is planned as one that keeps its width.
-use Rattle.std.proofs.Common.{◌≡◌, ◌∙◌, ℕ, ◌-◌, ◌^◌, ◌<◌, ◌≤◌, Bool, true, false, List, [], ◌∷◌, length, take, refl, sym, ap, arith}
-use Rattle.std.specs.Prelude.{Result, ◌&&◌, not, nat_lt}
+use Rattle.std.proofs.Common.{◌≡◌, ◌∙◌, ℕ, ◌-◌, ◌^◌, ◌<◌, ◌≤◌, Bool, true, false, List, [], ◌∷◌, ◌++◌, length, map, take, refl, sym, ap, arith}
+use Rattle.std.specs.Prelude.{Result, Some, ◌&&◌, not, nat_lt}
 use Rattle.std.specs.declared.result.Result.TheVariants.{Ok, Err}
 use Rattle.std.proofs.lemmas.Bool.{le-ltb, lt-ltb}
 use Rattle.part_tree.specs.declared.field.EditItem.{EditItem}
@@ -8,20 +8,26 @@ use Rattle.part_tree.specs.declared.plan.Plan.{Plan}
 use Rattle.part_tree.specs.declared.plan.Plan.TheVariants.{InPlace, Rewrite}
 use Rattle.part_tree.specs.declared.plan.PlanFault.{PlanFault}
 use Rattle.part_tree.specs.declared.plan.PlanFault.TheVariants.{TooLarge, Depot, Memory}
+use Rattle.part_tree.specs.Large.{Size, limited, first_above}
 use Rattle.field_model.specs.KindReads.{IsForm, PlansKind}
 use Rattle.field_model.specs.Update.{effective, raw_items}
 use Rattle.container_model.proofs.Codec.{IsBytes}
-use Rattle.wave_model.specs.Wave.{is_big, wave_of}
-use Rattle.wave_model.specs.Fields.{fields}
-use Rattle.wave_model.specs.Edited.{Supported}
+use Rattle.wave_model.specs.Wave.{is_big, Wave, inner, spell_wave, wave_of}
+use Rattle.wave_model.specs.Fields.{bodies, body_in, fields, is_info}
+use Rattle.wave_model.specs.Edited.{Supported, parts}
 use Rattle.wave_model.specs.Kind.{narrow_kind, wave_kind}
-use Rattle.wave_model.specs.New.{new_size}
+use Rattle.wave_model.specs.New.{new_children, new_size, new_wave}
+use Rattle.wave_model.specs.Large.{form_sizes}
 use Rattle.wave_model.specs.Room.{has_room}
-use Rattle.wave_model.specs.Widen.{widens, widens_by}
-use Rattle.wave_model.proofs.Kind.{narrow_file, narrow_large}
+use Rattle.wave_model.specs.Widen.{large_after, large_after_by, reserved, sizes_in, wave_after, wave_by, widened_wave, widens, widens_by}
+use Rattle.wave_model.proofs.Kind.{narrow_file, narrow_large, widening}
+use Rattle.wave_model.proofs.New.{ignores_info}
+use Rattle.wave_model.proofs.Seen.{see_info}
+use Rattle.wave_model.proofs.Widened.{view_kids}
 use Rattle.wave_plan.specs.declared.frame.Frame.{Frame}
 use Rattle.wave_plan.specs.Frame.{IsFrame}
-use Rattle.wave_plan.specs.Planned.{IsListed}
+use Rattle.wave_plan.specs.Planned.{IsListed, list_sizes}
+use Rattle.wave_plan.proofs.Answered.{above_some}
 
 module _ (b : List ℕ) (e : List EditItem) where
   widens_told : IsListed b e → widens b e ≡ (not (is_big (take 4 b)) && nat_lt (2 ^ 32 - 1) (new_size (wave_of b) (raw_items (fields b) e)))
@@ -59,3 +65,21 @@ module _ (b : List ℕ) (e : List EditItem) where
   as_narrow bytes sup t (Err (TooLarge size limit)) h = narrow_large b e bytes sup t ∙ h
   as_narrow bytes sup t (Err Depot) h = tt
   as_narrow bytes sup t (Err Memory) h = tt
+
+  -- a list that is too long is the first size that passes its limit
+  pub list_passes : IsBytes b → Supported b → 0 < length (effective (fields b) e) → (s : Size) → first_above (list_sizes b e) ≡ Some s → large_after b e ≡ Some s
+  list_passes bytes sup some s h = go (effective (fields b) e) some ∙ by (widens b e) refl
+    where
+      go : (is : List EditItem) → 0 < length is → large_after_by is (wave_after b e) ≡ first_above (sizes_in (wave_after b e))
+      go [] l = absurd (omega (arith, l))
+      go (i ∷ is) l = refl
+
+      after : Wave → List Size
+      after w = limited 65536 (parts w) ∷ (form_sizes w.form w.id (length (inner w)) ++ limited (2 ^ 63 - 1) (length (spell_wave w)) ∷ [])
+
+      by : (t : Bool) → widens b e ≡ t → first_above (sizes_in (wave_by t (wave_of b) (raw_items (fields b) e))) ≡ Some s
+      by false i = above_some (list_sizes b e) (after (new_wave (wave_of b) (raw_items (fields b) e))) s h
+      by true i =
+          let v = widened_wave (reserved (wave_of b).children) (new_wave (wave_of b) (raw_items (fields b) e)) in
+          let same : bodies is_info v.children ≡ bodies is_info (new_children (wave_of b) (raw_items (fields b) e)) = view_kids b bytes sup (widening b e i).narrow (raw_items (fields b) e) (body_in is_info) see_info ignores_info.padding in
+          above_some (map (λ x. limited (2 ^ 24) (length x)) (bodies is_info v.children)) (after v) s (ap (λ (xs : List (List ℕ)). first_above (map (λ x. limited (2 ^ 24) (length x)) xs)) same ∙ h)
