@@ -12,3 +12,4 @@ pub mod Unmet
 pub mod Ready
 pub mod Formed
 pub mod OfKind
+pub mod MapTells

@@ -50,7 +50,7 @@ fine_changes : (cs : List RawChange) → ItemsFine (raw_items_of cs) → AreFine
 fine_changes [] h = tt
 fine_changes (c ∷ cs) h = (h.0, fine_changes cs h.1)
 
-pub are_fine : (kind : Kind) (f : FieldMap) (e : List EditItem) (cs xs : List RawChange) → is_wave kind ≡ true → IsReady kind f e → raw_items_of cs ≡ raw_items f e → xs ≡ cs → AreFine xs
+pub are_fine : (kind : Kind) (f : FieldMap) (e : List EditItem) (cs xs : List RawChange) → is_wave kind ≡ true → IsReady kind 0 f e → raw_items_of cs ≡ raw_items f e → xs ≡ cs → AreFine xs
 are_fine kind f e cs xs wave ready is same =
     subst AreFine (sym same) (fine_changes cs (subst ItemsFine (sym is) (items_fine kind f e (has_neither kind wave) ready.keeps_rules)))
 
@@ -65,16 +65,16 @@ effect_by : (b : List ℕ) (e : List EditItem) (r : List RawItem) → 0 < length
 effect_by b [] r h = absurd (omega arith)
 effect_by b (i ∷ e) r h = refl
 
-pub has_effect : (b : List ℕ) (m : WaveMap) (e : List EditItem) → IsMapOf b m → IsReady m.kind (values m.fields) e → too_large b e ≡ first_above (all_sizes (wave_of b) (raw_items (fields b) e))
+pub has_effect : (b : List ℕ) (m : WaveMap) (e : List EditItem) → IsMapOf b m → IsReady m.kind 0 (values m.fields) e → too_large b e ≡ first_above (all_sizes (wave_of b) (raw_items (fields b) e))
 has_effect b m e h ready =
     let all : effective (fields b) e ≡ e = ap (λ (f : FieldMap). effective f e) (sym (same_fields b m h)) ∙ ready.changes_all in
     ap (λ (xs : List EditItem). large_by xs (wave_of b) (raw_items (fields b) e)) all ∙ effect_by b e (raw_items (fields b) e) ready.changes_some
 
-pub is_listed : (b : List ℕ) (m : WaveMap) (e : List EditItem) (r : List RawItem) → IsMapOf b m → IsReady m.kind (values m.fields) e → r ≡ raw_items (fields b) e → first_above (list_sizes b r) ≡ None → IsListed b e
+pub is_listed : (b : List ℕ) (m : WaveMap) (e : List EditItem) (r : List RawItem) → IsMapOf b m → IsReady m.kind 0 (values m.fields) e → r ≡ raw_items (fields b) e → first_above (list_sizes b r) ≡ None → IsListed b e
 is_listed b m e r h ready is none = record { effect = has_effect b m e h ready; lists = ap (λ (x : List RawItem). first_above (list_sizes b x)) (sym is) ∙ none }
 
 -- a list that is too long is the first size that passes its limit
-pub list_large : (b : List ℕ) (m : WaveMap) (e : List EditItem) (r : List RawItem) (s : Size) → IsMapOf b m → IsReady m.kind (values m.fields) e → r ≡ raw_items (fields b) e → first_above (list_sizes b r) ≡ Some s → too_large b e ≡ Some s
+pub list_large : (b : List ℕ) (m : WaveMap) (e : List EditItem) (r : List RawItem) (s : Size) → IsMapOf b m → IsReady m.kind 0 (values m.fields) e → r ≡ raw_items (fields b) e → first_above (list_sizes b r) ≡ Some s → too_large b e ≡ Some s
 list_large b m e r s h ready is some =
     has_effect b m e h ready ∙ above_some (Planned.list_sizes b e) _ s (ap (λ (x : List RawItem). first_above (list_sizes b x)) (sym is) ∙ some)
 
