@@ -8,3 +8,4 @@ pub mod Reopened
 pub mod CarriedOut
 pub mod Since
 pub mod Windows
+pub mod Counted

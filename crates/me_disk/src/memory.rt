@@ -4,9 +4,9 @@ ghost use Rattle.std.specs.Prelude.{◌≡◌, ◌+◌, ◌-◌, ◌<◌, ◌≤
 ghost use Rattle.me_disk.specs.Calls.Call.{BeginWork, AppendWork, SyncWork, DropWork, InstallMain, InstallJournal, WriteMain, SetMainLen, SyncMain, DropJournal};
 ghost use Rattle.me_disk.specs.Calls.{Allows};
 ghost use Rattle.me_disk.specs.Disk.{held, bytes_of, read_as, Only};
-ghost use Rattle.me_disk.specs.Memory.{memory_disk, memory_lawful, new_memory, items_of, Made, MadeRead};
+ghost use Rattle.me_disk.specs.Memory.{memory_disk, memory_calls, memory_lawful, new_memory, items_of, Made, MadeRead};
 ghost use Rattle.me_disk.specs.Reopened.{reopened};
-ghost use Rattle.me_disk.specs.Steps.{Does, ReadsOnly, HasCause};
+ghost use Rattle.me_disk.specs.Steps.{Does, ReadsOnly, HasCause, Counted};
 ghost use Rattle.me_disk.specs.Store.{held_of, IsHeld};
 
 use crate::depot::{Depot, DepotFault, Slot, WorkState};
@@ -48,6 +48,8 @@ impl Model for MemoryDepot {
 impl Depot for MemoryDepot {
     ghost disk = { memory_disk };
 
+    ghost calls = { memory_calls };
+
     ghost lawful = { memory_lawful };
 
     fn faults(&self) -> u64 {
@@ -59,6 +61,7 @@ impl Depot for MemoryDepot {
         ensures reads { ReadsOnly (memory_disk self.old) (memory_disk self.new) }
         ensures cause { HasCause (memory_disk self.old) (memory_disk self.new) result }
         ensures made { MadeRead self.old self.new result }
+        ensures counted { Counted 1 (memory_calls self.old) (memory_calls self.new) }
     {
         self.store.has(slot)
     }
@@ -69,6 +72,7 @@ impl Depot for MemoryDepot {
         ensures reads { ReadsOnly (memory_disk self.old) (memory_disk self.new) }
         ensures cause { HasCause (memory_disk self.old) (memory_disk self.new) result }
         ensures made { MadeRead self.old self.new result }
+        ensures counted { Counted 1 (memory_calls self.old) (memory_calls self.new) }
     {
         self.store.len(slot)
     }
@@ -79,6 +83,7 @@ impl Depot for MemoryDepot {
         ensures reads { ReadsOnly (memory_disk self.old) (memory_disk self.new) }
         ensures cause { HasCause (memory_disk self.old) (memory_disk self.new) result }
         ensures made { MadeRead self.old self.new result }
+        ensures counted { Counted 1 (memory_calls self.old) (memory_calls self.new) }
     {
         self.store.read_at(slot, at, into)
     }
@@ -86,6 +91,7 @@ impl Depot for MemoryDepot {
     fn begin_work(&mut self) -> Result<(), DepotFault>
         ensures does { Does BeginWork (memory_disk self.old) (memory_disk self.new) result }
         ensures made { Made BeginWork self.old self.new result }
+        ensures counted { Counted 1 (memory_calls self.old) (memory_calls self.new) }
     {
         self.store.make(Logged::Begin, &[])
     }
@@ -94,6 +100,7 @@ impl Depot for MemoryDepot {
         requires { Allows (AppendWork bytes.now) (memory_disk self.old) }
         ensures does { Does (AppendWork bytes.now) (memory_disk self.old) (memory_disk self.new) result }
         ensures made { Made (AppendWork bytes.now) self.old self.new result }
+        ensures counted { Counted 1 (memory_calls self.old) (memory_calls self.new) }
     {
         self.store.make(Logged::Append(bytes.len()), bytes)
     }
@@ -102,6 +109,7 @@ impl Depot for MemoryDepot {
         requires { Allows SyncWork (memory_disk self.old) }
         ensures does { Does SyncWork (memory_disk self.old) (memory_disk self.new) result }
         ensures made { Made SyncWork self.old self.new result }
+        ensures counted { Counted 1 (memory_calls self.old) (memory_calls self.new) }
     {
         self.store.make(Logged::Sync, &[])
     }
@@ -109,6 +117,7 @@ impl Depot for MemoryDepot {
     fn drop_work(&mut self) -> Result<(), DepotFault>
         ensures does { Does DropWork (memory_disk self.old) (memory_disk self.new) result }
         ensures made { Made DropWork self.old self.new result }
+        ensures counted { Counted 1 (memory_calls self.old) (memory_calls self.new) }
     {
         self.store.make(Logged::Drop, &[])
     }
@@ -117,6 +126,7 @@ impl Depot for MemoryDepot {
         requires { Allows InstallMain (memory_disk self.old) }
         ensures does { Does InstallMain (memory_disk self.old) (memory_disk self.new) result }
         ensures made { Made InstallMain self.old self.new result }
+        ensures counted { Counted 1 (memory_calls self.old) (memory_calls self.new) }
     {
         self.store.make(Logged::ToMain, &[])
     }
@@ -125,6 +135,7 @@ impl Depot for MemoryDepot {
         requires { Allows InstallJournal (memory_disk self.old) }
         ensures does { Does InstallJournal (memory_disk self.old) (memory_disk self.new) result }
         ensures made { Made InstallJournal self.old self.new result }
+        ensures counted { Counted 1 (memory_calls self.old) (memory_calls self.new) }
     {
         self.store.make(Logged::ToJournal, &[])
     }
@@ -133,6 +144,7 @@ impl Depot for MemoryDepot {
         requires { Allows (WriteMain at bytes.now) (memory_disk self.old) }
         ensures does { Does (WriteMain at bytes.now) (memory_disk self.old) (memory_disk self.new) result }
         ensures made { Made (WriteMain at bytes.now) self.old self.new result }
+        ensures counted { Counted 1 (memory_calls self.old) (memory_calls self.new) }
     {
         self.store.make(Logged::Write(at, bytes.len()), bytes)
     }
@@ -141,6 +153,7 @@ impl Depot for MemoryDepot {
         requires { Allows (SetMainLen n) (memory_disk self.old) }
         ensures does { Does (SetMainLen n) (memory_disk self.old) (memory_disk self.new) result }
         ensures made { Made (SetMainLen n) self.old self.new result }
+        ensures counted { Counted 1 (memory_calls self.old) (memory_calls self.new) }
     {
         self.store.make(Logged::Cut(n), &[])
     }
@@ -148,6 +161,7 @@ impl Depot for MemoryDepot {
     fn sync_main(&mut self) -> Result<(), DepotFault>
         ensures does { Does SyncMain (memory_disk self.old) (memory_disk self.new) result }
         ensures made { Made SyncMain self.old self.new result }
+        ensures counted { Counted 1 (memory_calls self.old) (memory_calls self.new) }
     {
         self.store.make(Logged::SyncFile, &[])
     }
@@ -155,6 +169,7 @@ impl Depot for MemoryDepot {
     fn drop_journal(&mut self) -> Result<(), DepotFault>
         ensures does { Does DropJournal (memory_disk self.old) (memory_disk self.new) result }
         ensures made { Made DropJournal self.old self.new result }
+        ensures counted { Counted 1 (memory_calls self.old) (memory_calls self.new) }
     {
         self.store.make(Logged::DropIt, &[])
     }

@@ -31,7 +31,7 @@ pub record Stood (c : Chunk) : Type 0 where
 size_again : (id body rest : List ℕ) → length body + 8 < 2 ^ 32 → size_at (spell (atom id body) ++ rest) ≡ length body + 8
 size_again id body rest lt = from_be_bytes-to_be_bytes_4 (length body + 8) lt
 
-spelled_as : (id body rest : List ℕ) → spell (atom id body) ++ rest ≡ to_be_bytes w32 (length body + 8) ++ (id ++ (body ++ rest))
+pub spelled_as : (id body rest : List ℕ) → spell (atom id body) ++ rest ≡ to_be_bytes w32 (length body + 8) ++ (id ++ (body ++ rest))
 spelled_as id body rest =
     append_assoc (to_be_bytes w32 (length body + 8) ++ id) (body ++ []) rest
     ∙ ap (λ (x : List ℕ). (to_be_bytes w32 (length body + 8) ++ id) ++ (x ++ rest)) (append-nil body)

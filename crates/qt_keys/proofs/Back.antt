@@ -1,5 +1,5 @@
 -- A key table that is read is spelled as it stood.
-use Rattle.std.proofs.Common.{◌≡◌, ℕ, ◌≤◌, Bool, true, false, leb, cond, List, [], ◌∷◌, ◌++◌, length, map, take, drop, refl, sym, ap, ◌∙◌, arith, Option, Some, None, length-drop}
+use Rattle.std.proofs.Common.{◌≡◌, ℕ, ◌≤◌, Bool, true, false, leb, cond, List, [], ◌∷◌, ◌++◌, length, map, take, drop, refl, sym, ap, subst, ◌∙◌, arith, Option, Some, None, length-drop}
 use Rattle.std.specs.Prelude.{codes, ◌&&◌, ◌==◌}
 use Rattle.std.specs.Int.{from_be_bytes, to_be_bytes, w32}
 use Rattle.std.proofs.lemmas.Bool.{eqb-true, leb-true}
@@ -11,7 +11,7 @@ use Rattle.container_model.proofs.Fronts.{IsBytes-take}
 use Rattle.container_model.proofs.Items.{same_true}
 use Rattle.container_model.specs.Atoms.{atom, is}
 use Rattle.container_model.specs.Chunk.{Chunk, spell, spell_all}
-use Rattle.qt_keys.specs.Read.{child_by, child_read, entry_read, item_read, item_with, items_read, key_table, keys_read, keys_with, value_read}
+use Rattle.qt_keys.specs.Read.{IsRead, child_by, child_read, entry_read, item_read, item_with, items_read, key_table, keys_read, keys_with, value_read}
 use Rattle.qt_keys.specs.Short.{each}
 use Rattle.qt_keys.specs.Table.{child_bytes, entry_atom, item_atom, table_bytes, value_atom}
 use Rattle.qt_keys.specs.declared.table.KeyChild.{KeyChild}
@@ -105,3 +105,9 @@ table_back b t h e = spelled_back child_read child_bytes child_back b t.children
 pub one_table : (a b : List ℕ) (t u : KeyTable) → IsBytes a → IsBytes b → key_table a ≡ Some t → key_table b ≡ Some u → table_bytes t ≡ table_bytes u → t ≡ u
 one_table a b t u ha hb e f same =
     some_is t u (sym e ∙ ap key_table (sym (table_back a t ha e) ∙ same ∙ table_back b u hb f) ∙ f)
+
+-- a table that was read of bytes is one that is read
+pub is_read : (b : List ℕ) (t : KeyTable) → IsBytes b → key_table b ≡ Some t → IsRead t
+is_read b t h e =
+    let same = table_back b t h e in
+    record { bytes = subst IsBytes (sym same) h; read = ap key_table same ∙ e }

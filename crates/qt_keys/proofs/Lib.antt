@@ -8,3 +8,4 @@ pub mod Again
 pub mod Found
 pub mod Keyed
 pub mod AreBytes
+pub mod Growth

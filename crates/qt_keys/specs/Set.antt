@@ -1,5 +1,5 @@
 -- A key table with a key set or removed, and what a key has (this project's own).
-use Rattle.std.specs.Prelude.{Bool, List, None, Option, Some, [], codes, if◌then◌else◌, length, map, suc, ℕ, ◌&&◌, ◌==◌, ◌≤◌, ◌∷◌}
+use Rattle.std.specs.Prelude.{Bool, List, None, Option, Some, [], codes, if◌then◌else◌, length, map, suc, ℕ, ◌&&◌, ◌+◌, ◌==◌, ◌≤◌, ◌∷◌}
 use Rattle.std.specs.Str.{bytes_eq}
 use Rattle.part_tree.specs.Letters.{four}
 use Rattle.qt_keys.specs.Table.{entries_of, is_key, items_of}
@@ -71,3 +71,8 @@ key_values name t = values_at (index_of name (entries_of t)) (items_of t)
 abbrev pub IsKeyValue : Option (List ℕ) → Type 0
 IsKeyValue None = Unit {0}
 IsKeyValue (Some raw) = 8 ≤ length raw
+
+-- the most bytes by which a table's spelling grows: an entry, and an item with its value
+abbrev pub growth : List ℕ → Option (List ℕ) → ℕ
+growth name None = 0
+growth name (Some raw) = (8 + length name) + (16 + length raw)

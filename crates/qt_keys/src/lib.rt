@@ -3,11 +3,11 @@
 //! It reads no file.
 #![tactic(auto)]
 
-ghost use Rattle.std.specs.Prelude.{◌≡◌, ◌≢◌, ◌≤◌, ◌^◌, ℕ, List, Option, Some, length};
+ghost use Rattle.std.specs.Prelude.{◌≡◌, ◌≢◌, ◌≤◌, ◌+◌, ◌^◌, ℕ, List, Option, Some, length};
 ghost use Rattle.std.specs.Option.{option_to_list};
 ghost use Rattle.me_bytes.specs.Bytes.{IsBytes};
 ghost use Rattle.qt_keys.specs.Read.{IsRead, key_table};
-ghost use Rattle.qt_keys.specs.Set.{IsKeyValue, key_values, with_key};
+ghost use Rattle.qt_keys.specs.Set.{IsKeyValue, growth, key_values, with_key};
 ghost use Rattle.qt_keys.specs.Table.{table_bytes};
 ghost use Rattle.qt_keys.specs.declared.table.KeyTable.{KeyTable as Keys};
 
@@ -33,9 +33,10 @@ pub fn keys_are_spelled_back()
 {}
 
 /// After a key is set it has that value alone, or none, and each other key has what it had. What is spelled of the new table is
-/// read as it, where it has at most 16 MiB.
+/// read as it, where it has at most 16 MiB; it is longer by at most 24 bytes, the name and the value.
 pub fn keys_are_set()
     ensures set { (name : List ℕ) (raw : Option (List ℕ)) (t : Keys) → IsRead t → key_values name (with_key name raw t) ≡ option_to_list raw }
     ensures others { (other name : List ℕ) (raw : Option (List ℕ)) (t : Keys) → other ≢ name → IsRead t → key_values other (with_key name raw t) ≡ key_values other t }
     ensures read { (name : List ℕ) (raw : Option (List ℕ)) (t : Keys) → IsKeyValue raw → IsRead t → IsBytes (table_bytes (with_key name raw t)) → length (table_bytes (with_key name raw t)) ≤ 2 ^ 24 → IsRead (with_key name raw t) }
+    ensures longer { (name : List ℕ) (raw : Option (List ℕ)) (t : Keys) → IsRead t → length (table_bytes (with_key name raw t)) ≤ length (table_bytes t) + growth name raw }
 {}

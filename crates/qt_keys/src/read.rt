@@ -1,10 +1,11 @@
 // The body of `meta` read as a key table.
-ghost use Rattle.std.specs.Prelude.{◌≡◌, ◌≤◌, ◌+◌, ◌^◌, ℕ, length, nat_le, take, drop, IfOk, MatchOption, None, Some, OnOk, ◌++◌};
+ghost use Rattle.std.specs.Prelude.{◌≡◌, ◌≤◌, ◌+◌, ◌^◌, ℕ, length, nat_le, take, drop, IfOk, IfSome, MatchOption, None, Some, OnOk, ◌++◌};
 ghost use Rattle.std.specs.Int.{w32, from_be_bytes};
 ghost use Rattle.container_model.specs.Atoms.{atom};
 ghost use Rattle.container_model.specs.Chunk.{spell};
-ghost use Rattle.qt_keys.specs.Read.{child_read, entry_read, item_read, items_read, key_table, keys_read, value_read};
+ghost use Rattle.qt_keys.specs.Read.{IsRead, child_read, entry_read, item_read, items_read, key_table, keys_read, value_read};
 ghost use Rattle.qt_keys.specs.Short.{each};
+ghost use Rattle.qt_keys.specs.Table.{table_bytes};
 
 use crate::lawful::is_lawful;
 use crate::short::{FromAtom, number_at, read_all};
@@ -16,9 +17,11 @@ use std::alloc::Global;
 // The most bytes that the body of an opened `meta` has.
 const MOST_BYTES: usize = 16_777_216;
 
-/// The key table that some bytes are. None exactly where they are none.
+/// The key table that some bytes are, whose spelling they are. None exactly where they are none.
 pub fn read_keys(alloc: Global, body: &[u8]) -> Result<Option<KeyTable>, NoMemory>
-    ensures { IfOk result (λ found. found ≡ key_table body.now) }
+    ensures table { IfOk result (λ found. found ≡ key_table body.now) }
+    ensures read { IfOk result (λ found. IfSome found IsRead) }
+    ensures spelled { IfOk result (λ found. IfSome found (λ t. table_bytes t ≡ body.now)) }
 {
     if body.len() > MOST_BYTES {
         return Ok(None);

@@ -1,6 +1,7 @@
 use Rattle.std.proofs.Common.{List, Option, Some, None, ℕ, ◌≡◌, ◌∙◌, [], ◌∷◌, refl}
 use Rattle.std.specs.Option.{option_to_list}
 use Rattle.qt_keys.specs.Table.{table_bytes}
+use Rattle.qt_keys.proofs.Growth.{grows}
 use Rattle.qt_keys.proofs.Found.{read_well}
 use Rattle.qt_keys.proofs.Keyed.{key_is_set, others_stay, read_set}
 use Rattle.qt_keys.proofs.keys_are_set.Goals as goal
@@ -17,3 +18,6 @@ returns-clause-others c = λ other name raw t n r. others_stay other name raw t 
 
 pub returns-clause-read : goal.returns-clause-read
 returns-clause-read c = read_set
+
+pub returns-clause-longer : goal.returns-clause-longer
+returns-clause-longer c = grows

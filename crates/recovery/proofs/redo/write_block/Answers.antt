@@ -10,11 +10,11 @@ returns-clause-laying g c =
     let d0 = g.D.Depot.disk c.args.depot.now in
     let size : length (take c.args.n c.args.buffer.now) ≡ c.args.n = omega (arith, c.told-buffer, c.requires.1.0, length-take c.args.n c.args.buffer.now) in
     block_on g.redo c.args.at (take c.args.n c.args.buffer.now) d0 (g.D.Depot.disk c.write_main.new.self) c.write_main.result (g.met.D.Depot.lawful c.args.depot.now) c.requires.1.1.1
-    (λ tells. subst (λ (n : ℕ). IsInside g.redo c.args.at n) (sym size) (c.requires.1.1.0 tells).1) c.write_main.ensures
+    (λ tells. subst (λ (n : ℕ). IsInside g.redo c.args.at n) (sym size) (c.requires.1.1.0 tells).1) c.write_main.ensures.does
 
 pub returns-clause-crash : goal.returns-clause-crash
 returns-clause-crash g c =
     let d0 = g.D.Depot.disk c.args.depot.now in
     let size : length (take c.args.n c.args.buffer.now) ≡ c.args.n = omega (arith, c.told-buffer, c.requires.1.0, length-take c.args.n c.args.buffer.now) in
     block_leaves g.redo c.args.at (take c.args.n c.args.buffer.now) (bytes_of d0.slots.main) d0 d0 (g.D.Depot.disk c.write_main.new.self) c.write_main.result (g.met.D.Depot.lawful c.args.depot.now) c.requires.1.1.1
-    (λ tells. subst (λ (n : ℕ). IsInside g.redo c.args.at n) (sym size) (c.requires.1.1.0 tells).1) (ReadsOnly-refl d0) c.write_main.ensures
+    (λ tells. subst (λ (n : ℕ). IsInside g.redo c.args.at n) (sym size) (c.requires.1.1.0 tells).1) (ReadsOnly-refl d0) c.write_main.ensures.does

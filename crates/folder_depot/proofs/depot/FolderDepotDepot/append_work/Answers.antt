@@ -3,8 +3,8 @@ use Rattle.me_disk.specs.Calls.Call.{AppendWork}
 use Rattle.folder_depot.proofs.Makes.{ok_does, fault_does}
 use Rattle.folder_depot.proofs.depot.FolderDepotDepot.append_work.Goals as goal
 
-pub returns-in-Ok : goal.returns-in-Ok
-returns-in-Ok g c = ok_does (AppendWork c.args.bytes.now) _ _ _ _ _ _ _ _ _ c.in-Ok.ensures.made refl (omega (arith, c.in-Some.ensures)) (omega arith)
+pub returns-in-Ok-clause-does : goal.returns-in-Ok-clause-does
+returns-in-Ok-clause-does g c = ok_does (AppendWork c.args.bytes.now) _ _ _ _ _ _ _ _ _ c.in-Ok.ensures.made refl (omega (arith, c.in-Some.ensures)) (omega arith)
 
-pub returns-in-Err : goal.returns-in-Err
-returns-in-Err g c = fault_does (AppendWork c.args.bytes.now) _ _ _ _ _ _ _ _ _ c.in-Err.ensures.made refl refl c.count_fault-in-Err.ensures.later c.count_fault-in-Err.ensures.rose
+pub returns-in-Err-clause-does : goal.returns-in-Err-clause-does
+returns-in-Err-clause-does g c = fault_does (AppendWork c.args.bytes.now) _ _ _ _ _ _ _ _ _ c.in-Err.ensures.made refl refl c.count_fault-in-Err.ensures.later c.count_fault-in-Err.ensures.rose

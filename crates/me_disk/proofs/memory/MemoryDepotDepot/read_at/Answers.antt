@@ -1,0 +1,5 @@
+use Rattle.me_disk.proofs.Counted.{read_counts}
+use Rattle.me_disk.proofs.memory.MemoryDepotDepot.read_at.Goals as goal
+
+pub returns-clause-counted : goal.returns-clause-counted
+returns-clause-counted c = read_counts _ _ _ _ c.self.view_is c.read_at.ensures.made
