@@ -13,3 +13,4 @@ pub mod Ready
 pub mod Formed
 pub mod OfKind
 pub mod MapTells
+pub mod Widens

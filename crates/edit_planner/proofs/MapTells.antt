@@ -6,7 +6,7 @@ use Rattle.part_tree.specs.declared.names.Span.{Span}
 use Rattle.part_tree.specs.Fields.{IsMap}
 use Rattle.container_model.specs.Chunk.{Chunk, spell}
 use Rattle.container_model.specs.Walk.{along}
-use Rattle.wave_model.specs.Kind.{narrow_kind}
+use Rattle.wave_model.specs.Kind.{wave_kind}
 use Rattle.wave_model.specs.Map.{body_span, sound, sound_from}
 use Rattle.wave_model.specs.New.{children_at}
 use Rattle.wave_model.specs.Wave.{wave_of}
@@ -43,7 +43,7 @@ sound_told o m is = first_sound (children_at (wave_of o)) (wave_of o).children m
 alone : (s : Span) (o : List ℕ) → s ≡ sound o → s.len ≡ total_len (sound o ∷ [])
 alone s o is = let same = ap (λ (x : Span). x.len) is in omega (arith, same)
 
-wave_tells : (o : List ℕ) (m : WaveMap) → IsMapOf o m → TellsOf narrow_kind o (map.Wave m)
+wave_tells : (o : List ℕ) (m : WaveMap) → IsMapOf o m → TellsOf wave_kind o (map.Wave m)
 unfolding sound_told alone
 wave_tells o m is = record {
   supported = is.supported;

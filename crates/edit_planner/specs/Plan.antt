@@ -1,5 +1,9 @@
 -- The plan of an edit of a file, by the map of the file (this project's own).
-use Rattle.std.specs.Prelude.{◌≡◌, ◌<◌, ℕ, List, [], length, Bool, true, false, None, Result}
+use Rattle.std.specs.Prelude.{◌≡◌, ◌<◌, ℕ, ◌^◌, List, [], ◌∷◌, length, ◌&&◌, nat_le, codes, Option, Some, None, if◌then◌else◌}
+use Rattle.std.specs.Str.{bytes_eq}
+use Rattle.part_tree.specs.declared.part.Part.{Part}
+use Rattle.wave_file.specs.declared.map.WaveMap.{WaveMap}
+use Rattle.wave_plan.specs.declared.widen.Widening.{Widening}
 use Rattle.part_tree.specs.declared.field.EditItem.{EditItem}
 use Rattle.part_tree.specs.declared.field.RuleSet.TheVariants.{Base}
 use Rattle.part_tree.specs.declared.names.Kind.{Kind}
@@ -35,6 +39,15 @@ kind_in m = (told_in m).kind
 -- the fields that it tells
 abbrev pub fields_in : FileMap → FieldMap
 fields_in m = values (told_in m).fields
+
+-- the length of the body of the JUNK that is reserved for `ds64`, directly behind the form's type
+abbrev pub reserved_in : List Part → Option ℕ
+reserved_in [] = None
+reserved_in (p ∷ ps) = if bytes_eq p.id.0 (codes "JUNK") && (nat_le 28 p.body.len && nat_le p.body.len (2 ^ 24)) then Some p.body.len else None
+
+-- what a form that becomes RF64 tells in its `ds64`
+abbrev pub widening_in : WaveMap → Widening
+widening_in m = record { reserved = reserved_in m.parts.items; sound = m.sound; align = m.align }
 
 -- Each item of the edit changes a field, there is an item, and they break no basic rule.
 pub record IsReady (kind : Kind) (streams : ℕ) (f : FieldMap) (e : List EditItem) : Type 0 where
