@@ -1,5 +1,5 @@
 // Whether the entries of `idx1` name bytes of the essence, and how many are counted.
-ghost use Rattle.std.specs.Prelude.{◌≡◌, ◌+◌, ◌<◌, ◌^◌, ◌||◌, ℕ, List};
+ghost use Rattle.std.specs.Prelude.{◌≡◌, ◌+◌, ◌<◌, ◌≤◌, ◌^◌, ◌||◌, ℕ, List, IfOk};
 ghost use Rattle.me_disk.specs.Causes.{Rose};
 ghost use Rattle.me_disk.specs.Holds.{Holds, Inside};
 ghost use Rattle.me_disk.specs.Steps.{ReadsOnly};
@@ -102,6 +102,7 @@ pub fn check_idx1<D: Depot>(
     requires small { idx.at + idx.len < 2 ^ 63 }
     requires movi_small { movi.at + movi.len < 2 ^ 63 }
     ensures entries { (b : List ℕ) → Holds (D.disk depot.old) b → JudgesRows (model_base base) movi indexes.now (old_rows (slice b idx.at idx.len)) result }
+    ensures few { IfOk result (λ n. n ≤ idx.len) }
     ensures reads { ReadsOnly (D.disk depot.old) (D.disk depot.new) }
     ensures cause { result ≡ Err IndexFault.Depot → Rose (D.disk depot.old).faults (D.disk depot.new).faults }
 {

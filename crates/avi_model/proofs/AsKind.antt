@@ -140,7 +140,7 @@ is_kind = record {
   in_place = λ o e bytes w small room. in_place o e bytes ((exact o).0 w) small room;
   no_larger = λ o e bytes w small. no_larger o e small;
   by_effect = λ o e all is. same_edit o e all is;
-  lawful = λ o bytes w. inr (λ field. refl);
+  lawful = λ o bytes w. record { bext = inr (λ field. refl); keys = λ name. tt };
 }
 
 -- ---- one splice

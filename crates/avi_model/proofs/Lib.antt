@@ -51,3 +51,5 @@ pub mod Merged
 pub mod OneSplice
 pub mod Turns
 pub mod Ordered
+mod Rising
+mod Relocated

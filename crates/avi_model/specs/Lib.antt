@@ -12,3 +12,4 @@ pub mod Map
 pub mod Room
 pub mod Kind
 pub mod Splices
+pub mod Joined

@@ -3,9 +3,14 @@
 //! 1.0) and of AVI, the indexes those of OpenDML (AVI File Format Extensions 1.02). It knows no device and no code.
 #![tactic(auto)]
 
-ghost use Rattle.std.specs.Prelude.{◌≡◌, ◌<◌, ◌≤◌, ◌-◌, ◌^◌, ◌⊎◌, ◌++◌, ℕ, Bool, List, [], length, map, take, None};
+ghost use Rattle.std.specs.Prelude.{◌≡◌, ◌<◌, ◌≤◌, ◌+◌, ◌*◌, ◌-◌, ◌^◌, ◌⊎◌, ◌++◌, ℕ, Bool, List, [], length, map, take, drop, None};
 ghost use Rattle.me_bytes.specs.Bytes.{IsBytes};
 ghost use Rattle.part_tree.specs.declared.field.EditItem.{EditItem};
+ghost use Rattle.part_tree.specs.declared.table.IndexHead.{IndexHead};
+ghost use Rattle.part_tree.specs.declared.table.TableForm.TheVariants.{Super, Standard};
+ghost use Rattle.part_tree.specs.Moves.{Move};
+ghost use Rattle.part_tree.specs.Tables.{moved, relocated, RowsNamed, width};
+ghost use Rattle.container_model.specs.Written.{map_rows};
 ghost use Rattle.part_tree.specs.Parts.{count_parts};
 ghost use Rattle.container_model.specs.Chunk.{and_then, behind, Chunk, chunk_of, chunks, ends, Form, full_header, joined, passes, stopped, too_short};
 ghost use Rattle.carrier_model.specs.Info.{list_run};
@@ -15,17 +20,18 @@ ghost use Rattle.part_tree.specs.Ranges.{Ascends};
 ghost use Rattle.container_model.specs.Tables.{Table};
 ghost use Rattle.avi_index.specs.Checks.{old_tests};
 ghost use Rattle.avi_index.specs.Found.{counted, is_based};
-ghost use Rattle.avi_index.specs.Rows.{Base};
+ghost use Rattle.avi_index.specs.Rows.{Base, old_row};
 ghost use Rattle.opendml_index.specs.Checks.{entries_tests};
 ghost use Rattle.avi_model.specs.Index.{indexes, olds, renumbered, spans, table_span};
-ghost use Rattle.opendml_index.specs.Index.{move};
-ghost use Rattle.avi_model.specs.Support.{by_place, parts, Supported};
+ghost use Rattle.opendml_index.specs.Index.{move, super_row, entry_row};
+ghost use Rattle.avi_model.specs.Support.{by_place, movi_spans, parts, Supported};
 ghost use Rattle.avi_model.specs.Why.{why};
 ghost use Rattle.avi_model.specs.NewFile.{moves};
 ghost use Rattle.avi_model.specs.Splices.{IsOneSplice};
 ghost use Rattle.field_model.specs.Kind.{IsKind};
 ghost use Rattle.field_model.specs.Update.{effective};
 ghost use Rattle.avi_model.specs.Edited.{changes, fields, new_file};
+ghost use Rattle.avi_model.specs.Joined.{old_form};
 ghost use Rattle.avi_model.specs.Kind.{avi_kind};
 ghost use Rattle.avi_model.specs.Large.{too_large, new_avi};
 ghost use Rattle.avi_model.specs.Room.{Room};
@@ -86,11 +92,26 @@ pub fn forms_are_read_in_turn()
 {}
 
 /// What is tested of the entries of tables, and which are counted, is the same for the index chunks in any order, so for those
-/// by place. In a supported file these ascend.
+/// by place. In a supported file these ascend, and so do the bodies of the movi lists.
 pub fn indexes_are_searched_by_place()
     ensures rows { (base : Base) (movi : Span) (ts : List Table) (k : ℕ) (rs : List (List ℕ)) → old_tests base movi (spans (by_place ts)) k rs ≡ old_tests base movi (spans ts) k rs }
     ensures entries { (movis : List Span) (ts : List Table) (base k : ℕ) (rs : List (List ℕ)) → entries_tests movis (spans (by_place ts)) base k rs ≡ entries_tests movis (spans ts) base k rs }
     ensures based { (b : List ℕ) (ts : List Table) (movi : Span) (rs : List (List ℕ)) → is_based b (spans (by_place ts)) movi rs ≡ is_based b (spans ts) movi rs }
     ensures counted { (base : Base) (movi : Span) (ts : List Table) (r : List ℕ) → counted base movi (spans (by_place ts)) r ≡ counted base movi (spans ts) r }
     ensures ascend { (b : List ℕ) → Supported b → Ascends 0 (spans (by_place (indexes b))) }
+    ensures movis { (b : List ℕ) → IsBytes b → Supported b → Ascends 0 (movi_spans (avi_of b)) }
+{}
+
+/// The rows of `idx1`, of a super and of a standard index with their places moved are those of a table that a plan
+/// relocates, where each new place can be named. A standard index counts from `old.base`, and from `base` in the new file.
+pub fn rows_are_relocated()
+    ensures olds { (moves : List Move) (base : Base) (movi n : ℕ) (b : List ℕ)
+        → 16 * n ≤ length b → RowsNamed moves (old_form movi base) n b
+        → relocated moves (old_form movi base) n b ++ drop (16 * n) b ≡ map_rows 16 (old_row (moved moves) base) n b }
+    ensures supers { (moves : List Move) (n : ℕ) (b : List ℕ) → 16 * n ≤ length b → RowsNamed moves Super n b
+        → relocated moves Super n b ++ drop (16 * n) b ≡ map_rows 16 (super_row (move (moved moves))) n b }
+    ensures entries { (moves : List Move) (n : ℕ) (b : List ℕ) (old : IndexHead) (base : ℕ)
+        → width (Standard old base) * n ≤ length b → RowsNamed moves (Standard old base) n b
+        → relocated moves (Standard old base) n b ++ drop (width (Standard old base) * n) b
+        ≡ map_rows (width (Standard old base)) (entry_row (λ y. moved moves (old.base + y) - base)) n b }
 {}

@@ -13,7 +13,7 @@ use Rattle.part_tree.specs.declared.names.FourCc.{FourCc}
 use Rattle.field_model.specs.Bext.{form_of, width}
 use Rattle.field_model.specs.Body.{FillsRange}
 use Rattle.field_model.specs.Fields.{FieldMap, plain, version_of}
-use Rattle.field_model.specs.Lawful.{IsLawful}
+use Rattle.field_model.specs.Lawful.{BextIsWhole, IsLawful}
 use Rattle.field_model.specs.Raw.{fits_width, padded, raw_form, raw_of, raw_whole}
 use Rattle.field_model.specs.Shown.{before_zero, shown, unless_empty}
 use Rattle.field_model.specs.Update.{is_nothing, only_shown, removes, same_text, shown_spelled, shows_already}
@@ -106,14 +106,14 @@ spelled_number field text raw h = fills_number field raw (raw_fills field text r
 -- ---- the one value
 
 -- in lawful fields a value of bext fills its range
-pub held_fills : (f : FieldMap) (field : BextField) (vs : List Value) (d : Value) → IsLawful f → vs ≡ f (Bext field) → 0 < length vs → FillsRange field (get_or vs 0 d).raw
+pub held_fills : (f : FieldMap) (field : BextField) (vs : List Value) (d : Value) → BextIsWhole f → vs ≡ f (Bext field) → 0 < length vs → FillsRange field (get_or vs 0 d).raw
 held_fills f field vs d (inl all) same some =
     let one = all field in
     subst (λ (ws : List Value). FillsRange field (get_or ws 0 d).raw) (sym (same ∙ one.1)) one.2
 held_fills f field vs d (inr none) same some = absurd (omega (arith, some, ap length (same ∙ none field)))
 
 pub held_number : (f : FieldMap) (name : FieldName) (vs : List Value) (d : Value) → IsLawful f → vs ≡ f name → 0 < length vs → HasNumber name (get_or vs 0 d).raw
-held_number f (Bext field) vs d lawful same some = fills_number field (get_or vs 0 d).raw (held_fills f field vs d lawful same some)
+held_number f (Bext field) vs d lawful same some = fills_number field (get_or vs 0 d).raw (held_fills f field vs d lawful.bext same some)
 held_number f (Info id) vs d lawful same some = tt
 held_number f (Whole id) vs d lawful same some = tt
 held_number f (User id) vs d lawful same some = tt
@@ -155,7 +155,7 @@ removes_only f field (v ∷ []) d h = ap not (and_true (is_nothing f field v))
 removes_only f field (v ∷ w ∷ vs) d h = absurd (omega (arith, h))
 
 -- and none has two values
-pub none_two : (f : FieldMap) (field : BextField) (vs : List Value) → IsLawful f → vs ≡ f (Bext field) → 2 ≤ length vs → ⊥
+pub none_two : (f : FieldMap) (field : BextField) (vs : List Value) → BextIsWhole f → vs ≡ f (Bext field) → 2 ≤ length vs → ⊥
 none_two f field vs (inl all) same two = omega (arith, two, ap length (same ∙ (all field).1))
 none_two f field vs (inr none) same two = omega (arith, two, ap length (same ∙ none field))
 

@@ -6,9 +6,9 @@ use Rattle.part_tree.specs.declared.field.BextField.{BextField}
 use Rattle.part_tree.specs.declared.field.Value.{Value}
 use Rattle.field_model.specs.Body.{FillsRange}
 use Rattle.field_model.specs.Fields.{FieldMap}
-use Rattle.field_model.specs.Lawful.{FillsName, IsLawful}
+use Rattle.field_model.specs.Lawful.{BextIsWhole, FillsName, IsLawful}
 
-bext_fills : (f : FieldMap) (field : BextField) (v : Value) → IsLawful f → f (Bext field) ≡ v ∷ [] → FillsRange field v.raw
+bext_fills : (f : FieldMap) (field : BextField) (v : Value) → BextIsWhole f → f (Bext field) ≡ v ∷ [] → FillsRange field v.raw
 bext_fills f field v (inl all) is =
     let one = all field in
     let same : one.0 ≡ v = cc in
@@ -16,7 +16,7 @@ bext_fills f field v (inl all) is =
 bext_fills f field v (inr none) is = absurd (omega (arith, ap length (sym is ∙ none field)))
 
 pub only_fills : (f : FieldMap) (name : FieldName) (v : Value) → IsLawful f → f name ≡ v ∷ [] → FillsName name v.raw
-only_fills f (Bext field) v lawful is = bext_fills f field v lawful is
+only_fills f (Bext field) v lawful is = bext_fills f field v lawful.bext is
 only_fills f _ v lawful is = tt
 
 -- a list of one value

@@ -5,13 +5,13 @@ use Rattle.part_tree.specs.declared.field.FieldName.TheVariants.{Bext}
 use Rattle.part_tree.specs.declared.field.Value.{Value}
 use Rattle.field_model.specs.Body.{FillsRange}
 use Rattle.field_model.specs.Fields.{FieldMap, first_raw}
-use Rattle.field_model.specs.Lawful.{IsLawful}
+use Rattle.field_model.specs.Lawful.{BextIsWhole}
 
 fills_two : (raw : List ℕ) → FillsRange Version raw → length raw ≡ 2
 fills_two raw (inl e) = absurd (omega (arith, e))
 fills_two raw (inr e) = e
 
-pub first_two : (f : FieldMap) (vs : List Value) (d : Value) → IsLawful f → vs ≡ f (Bext Version) → 0 < length vs → length (get_or vs 0 d).raw ≡ 2
+pub first_two : (f : FieldMap) (vs : List Value) (d : Value) → BextIsWhole f → vs ≡ f (Bext Version) → 0 < length vs → length (get_or vs 0 d).raw ≡ 2
 first_two f vs d (inl all) same some =
     let one = all Version in
     let is : vs ≡ one.0 ∷ [] = same ∙ one.1 in

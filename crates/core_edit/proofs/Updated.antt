@@ -1,6 +1,8 @@
 -- Fields made, raised and laid one after the other are the fields after the edit, and stay lawful.
 use Rattle.std.proofs.Common.{◌≡◌, ℕ, zero, suc, ◌+◌, ◌<◌, ◌≤◌, List, [], ◌∷◌, length, get_or, replicate, Bool, true, false, ◌==◌, refl, sym, ap, ◌∙◌, arith, inl, inr, subst, Option, Some, None, if◌then◌else◌, nat_le, nat_lt, ltb-false, true≢false, Result, Ok, Err, IfOk, OnOk}
 use Rattle.std.proofs.lemmas.Bool.{cond-true, cond-false, eqb-true, eq-eqb, lt-ltb, le-ltb, ltb-true, or_parts}
+use Rattle.std.specs.List.{AllByRecursion}
+use Rattle.std.specs.Str.{bytes_eq}
 use Rattle.std.proofs.lemmas.List.{length-replicate}
 use Rattle.me_bytes.specs.Bytes.{le_bytes}
 use Rattle.me_bytes.proofs.Laws.{length-le_bytes}
@@ -17,7 +19,7 @@ use Rattle.part_tree.proofs.Places.{row_injective, row_small, same_is_equal}
 use Rattle.field_model.specs.Bext.{form_of, no_loudness, width}
 use Rattle.field_model.specs.Body.{FillsRange, FitBext, FitsBext}
 use Rattle.field_model.specs.Fields.{FieldMap, plain, version_of}
-use Rattle.field_model.specs.Lawful.{IsLawful}
+use Rattle.field_model.specs.Lawful.{BextIsWhole, FitKeys, FitsKey, HasKeyHead, IsLawful}
 use Rattle.field_model.specs.Update.{RawItem, is_bext, listed, made, needed, raised_form, raised_values, updated, updated_values}
 use Rattle.core_edit.specs.declared.apply.TheConstants.{FIELDS}
 use Rattle.core_edit.specs.Updates.{names_bext, prepared}
@@ -102,14 +104,14 @@ none_named f e none (Stream n) = refl
 
 -- ---- the value that is made
 
-pub made_held : (f : FieldMap) (field : BextField) (vs : List Value) (d : Value) → IsLawful f → vs ≡ f (Bext field) → 1 ≤ length vs → made f field ≡ get_or vs 0 d ∷ []
+pub made_held : (f : FieldMap) (field : BextField) (vs : List Value) (d : Value) → BextIsWhole f → vs ≡ f (Bext field) → 1 ≤ length vs → made f field ≡ get_or vs 0 d ∷ []
 made_held f field vs d (inl all) same some =
     let one = all field in
     ap (λ (ws : List Value). if length ws == 0 then plain (replicate (width field) 0) ∷ [] else f (Bext field)) (all Version).1
     ∙ one.1 ∙ ap (λ (ws : List Value). get_or ws 0 d ∷ []) (sym (same ∙ one.1))
 made_held f field vs d (inr none) same some = absurd (omega (arith, some, ap length (same ∙ none field)))
 
-pub made_none : (f : FieldMap) (field : BextField) (vs : List Value) → IsLawful f → vs ≡ f (Bext field) → length vs < 1 → made f field ≡ plain (replicate (width field) 0) ∷ []
+pub made_none : (f : FieldMap) (field : BextField) (vs : List Value) → BextIsWhole f → vs ≡ f (Bext field) → length vs < 1 → made f field ≡ plain (replicate (width field) 0) ∷ []
 made_none f field vs (inl all) same none = absurd (omega (arith, none, ap length (same ∙ (all field).1)))
 made_none f field vs (inr none) same few = ap (λ (ws : List Value). if length ws == 0 then plain (replicate (width field) 0) ∷ [] else f (Bext field)) (none Version)
 
@@ -173,7 +175,7 @@ all_put f g h first second e one two before after name =
 abbrev OneFills : BextField → List Value → Type 0
 OneFills field vs = (v : Value) × (vs ≡ v ∷ []) × FillsRange field v.raw
 
-made_one : (f : FieldMap) (field : BextField) → IsLawful f → OneFills field (made f field)
+made_one : (f : FieldMap) (field : BextField) → BextIsWhole f → OneFills field (made f field)
 made_one f field (inl all) = subst (OneFills field) (sym (ap (λ (ws : List Value). if length ws == 0 then plain (replicate (width field) 0) ∷ [] else f (Bext field)) (all Version).1)) (all field)
 made_one f field (inr none) =
     subst (OneFills field) (sym (ap (λ (ws : List Value). if length ws == 0 then plain (replicate (width field) 0) ∷ [] else f (Bext field)) (none Version)))
@@ -224,16 +226,44 @@ values_one : (e : List RawItem) (field : BextField) (vs : List Value) → FitBex
 values_one [] field vs fit one = one
 values_one (i ∷ e) field vs fit one = values_one e field (if same_name i.name (Bext field) then listed i.value else vs) fit.1 (item_one i.name i.value field vs fit.0 one)
 
-updated_lawful : (f : FieldMap) (e : List RawItem) → IsLawful f → FitBext e → (t : Bool) → names_bext e ≡ t → IsLawful (updated e f)
-updated_lawful f e lawful fit true h =
+updated_whole : (f : FieldMap) (e : List RawItem) → BextIsWhole f → FitBext e → (t : Bool) → names_bext e ≡ t → BextIsWhole (updated e f)
+updated_whole f e lawful fit true h =
     inl (λ field. subst (OneFills field) (sym (cond-true (names_bext e) _ _ h)) (values_one e field _ fit (raised_one (needed e) (version_of f) field (made f field) (made_one f field lawful))))
-updated_lawful f e (inl all) fit false h = inl (λ field. subst (OneFills field) (sym (cond-false (names_bext e) _ _ h)) (all field))
-updated_lawful f e (inr none) fit false h = inr (λ field. cond-false (names_bext e) _ _ h ∙ none field)
+updated_whole f e (inl all) fit false h = inl (λ field. subst (OneFills field) (sym (cond-false (names_bext e) _ _ h)) (all field))
+updated_whole f e (inr none) fit false h = inr (λ field. cond-false (names_bext e) _ _ h ∙ none field)
+
+-- each of some values has its type and its locale
+abbrev HaveHeads : List Value → Type 0
+HaveHeads vs = AllByRecursion HasKeyHead vs
+
+item_has_heads : (name : FieldName) (value : Option Value) (key : List ℕ) (vs : List Value) → FitsKey name value → HaveHeads vs → HaveHeads (if same_name name (Key key) then listed value else vs)
+item_has_heads (Key a) None key vs fits have = go (bytes_eq a key)
+  where
+    go : (t : Bool) → HaveHeads (if t then [] else vs)
+    go true = tt
+    go false = have
+item_has_heads (Key a) (Some v) key vs fits have = go (bytes_eq a key)
+  where
+    go : (t : Bool) → HaveHeads (if t then v ∷ [] else vs)
+    go true = (fits, tt)
+    go false = have
+item_has_heads (Bext field) value key vs fits have = have
+item_has_heads (Info id) value key vs fits have = have
+item_has_heads (Whole id) value key vs fits have = have
+item_has_heads (User id) value key vs fits have = have
+item_has_heads (Stream n) value key vs fits have = have
+
+values_have_heads : (e : List RawItem) (key : List ℕ) (vs : List Value) → FitKeys e → HaveHeads vs → HaveHeads (updated_values e (Key key) vs)
+values_have_heads [] key vs fit have = have
+values_have_heads (i ∷ e) key vs fit have = values_have_heads e key (if same_name i.name (Key key) then listed i.value else vs) fit.1 (item_has_heads i.name i.value key vs fit.0 have)
 
 -- fields that are those after the edit are lawful
-pub lawful_after : (f g : FieldMap) (e : List RawItem) → IsLawful f → FitBext e → ((name : FieldName) → g name ≡ updated e f name) → IsLawful g
-lawful_after f g e lawful fit same = go (updated_lawful f e lawful fit (names_bext e) refl)
+pub lawful_after : (f g : FieldMap) (e : List RawItem) → IsLawful f → FitBext e → FitKeys e → ((name : FieldName) → g name ≡ updated e f name) → IsLawful g
+lawful_after f g e lawful fit keys same = record {
+  bext = go (updated_whole f e lawful.bext fit (names_bext e) refl);
+  keys = λ name. subst HaveHeads (sym (same (Key name))) (values_have_heads e name (f (Key name)) keys (lawful.keys name));
+}
   where
-    go : IsLawful (updated e f) → IsLawful g
+    go : BextIsWhole (updated e f) → BextIsWhole g
     go (inl all) = inl (λ field. subst (OneFills field) (sym (same (Bext field))) (all field))
     go (inr none) = inr (λ field. same (Bext field) ∙ none field)

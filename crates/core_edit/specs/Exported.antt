@@ -1,5 +1,5 @@
 -- The texts of fields that a table shows (this project's own).
-use Rattle.std.specs.Prelude.{ℕ, List, [], Bool, false, ◌==◌, Option, Some, None, is_some, filter, if◌then◌else◌}
+use Rattle.std.specs.Prelude.{ℕ, List, [], Option, Some, None, is_some, filter, if◌then◌else◌}
 use Rattle.part_tree.specs.declared.field.BextField.TheVariants.{Version}
 use Rattle.part_tree.specs.declared.field.FieldName.{FieldName}
 use Rattle.part_tree.specs.declared.field.FieldName.TheVariants.{Bext}

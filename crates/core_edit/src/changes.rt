@@ -4,6 +4,7 @@ ghost use Rattle.std.specs.List.{filter_map};
 ghost use Rattle.field_model.specs.Bext.{blank as spec_blank};
 ghost use Rattle.field_model.specs.Body.{FitBext};
 ghost use Rattle.field_model.specs.Fields.{FieldMap};
+ghost use Rattle.field_model.specs.Lawful.{FitKeys};
 ghost use Rattle.field_model.specs.Update as spec;
 ghost use Rattle.bext_fields.specs.Change.{raw_item_of, raw_items_of};
 ghost use Rattle.core_edit.specs.Edits.{AreOfFields};
@@ -21,6 +22,7 @@ pub fn raw_changes(alloc: Global, edit: &Edit) -> Result<Vec<RawChange>, NoMemor
     ensures effective { (f : FieldMap) → spec.effective f edit.now ≡ edit.now → IfOk result (λ changes. raw_items_of changes.items ≡ spec.raw_items f edit.now) }
     ensures names { IfOk result (λ changes. AreOfFields (raw_items_of changes.items)) }
     ensures fit { IfOk result (λ changes. FitBext (raw_items_of changes.items)) }
+    ensures keys { IfOk result (λ changes. FitKeys (raw_items_of changes.items)) }
 {
     let items = edit.items();
     let mut changes = Vec::new(alloc);

@@ -10,7 +10,8 @@ mod tests;
 
 pub use bytes::{file_bytes, journal_bytes, old_journal_bytes, titled};
 pub use runs::{
-    depot_of, depot_with, edit_by_rewrite, edit_in_place, patches_in_place, reopened, run_in_place,
-    run_rewrite, spell_in_place, stop, stopped_edit, stopped_recovery, stopped_rewrite,
+    depot_of, depot_with, edit_by_rewrite, edit_in_place, holds_alone, is_recovered,
+    patches_in_place, reopened, run_in_place, run_rewrite, spell_in_place, stop, stopped_edit,
+    stopped_recovery, stopped_rewrite,
 };
 pub use tables::{is_for, more_bytes, run_tables, stopped_tables, tables_file, tables_swap};

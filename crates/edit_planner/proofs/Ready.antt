@@ -55,7 +55,7 @@ fine_changes : (cs : List RawChange) → ItemsFine (raw_items_of cs) → AreFine
 fine_changes [] h = tt
 fine_changes (c ∷ cs) h = (h.0, fine_changes cs h.1)
 
-pub are_fine : (kind : Kind) (f : FieldMap) (e : List EditItem) (cs xs : List RawChange) → is_wave kind ≡ true → IsReady kind f e → raw_items_of cs ≡ raw_items f e → xs ≡ cs → AreFine xs
+pub are_fine : (kind : Kind) (f : FieldMap) (e : List EditItem) (cs xs : List RawChange) → is_wave kind ≡ true → IsReady kind 0 f e → raw_items_of cs ≡ raw_items f e → xs ≡ cs → AreFine xs
 are_fine kind f e cs xs wave ready is same =
     subst AreFine (sym same) (fine_changes cs (subst ItemsFine (sym is) (items_fine kind f e (has_neither kind wave) ready.keeps_rules)))
 
@@ -66,19 +66,19 @@ same_fields b m h = fun_ext h.field_values
 pub items_are : (b : List ℕ) (m : WaveMap) (e : List EditItem) (cs xs : List RawChange) → IsMapOf b m → raw_items_of cs ≡ raw_items (values m.fields) e → xs ≡ cs → raw_items_of xs ≡ raw_items (fields b) e
 items_are b m e cs xs h is same = ap raw_items_of same ∙ is ∙ ap (λ (f : FieldMap). raw_items f e) (same_fields b m h)
 
-pub has_effect : (b : List ℕ) (m : WaveMap) (e : List EditItem) → IsMapOf b m → IsReady m.kind (values m.fields) e → 0 < length (effective (fields b) e)
+pub has_effect : (b : List ℕ) (m : WaveMap) (e : List EditItem) → IsMapOf b m → IsReady m.kind 0 (values m.fields) e → 0 < length (effective (fields b) e)
 has_effect b m e h ready =
     let all : effective (fields b) e ≡ e = ap (λ (f : FieldMap). effective f e) (sym (same_fields b m h)) ∙ ready.changes_all in
     omega (arith, ap (λ (es : List EditItem). length es) all, ready.changes_some)
 
-pub is_accepted : (b : List ℕ) (m : WaveMap) (e : List EditItem) → IsMapOf b m → IsReady m.kind (values m.fields) e → IsAccepted wave_kind b e
+pub is_accepted : (b : List ℕ) (m : WaveMap) (e : List EditItem) → IsMapOf b m → IsReady m.kind 0 (values m.fields) e → IsAccepted wave_kind b e
 is_accepted b m e h ready = sym (ap (λ (k : Kind). broken k 0 (values m.fields) e Base) h.kind ∙ ap (λ (f : FieldMap). broken (kind_of b) 0 f e Base) (same_fields b m h)) ∙ ready.keeps_rules
 
-pub is_listed : (b : List ℕ) (m : WaveMap) (e : List EditItem) (r : List RawItem) → IsMapOf b m → IsReady m.kind (values m.fields) e → r ≡ raw_items (fields b) e → first_above (list_sizes b r) ≡ None → IsListed b e
+pub is_listed : (b : List ℕ) (m : WaveMap) (e : List EditItem) (r : List RawItem) → IsMapOf b m → IsReady m.kind 0 (values m.fields) e → r ≡ raw_items (fields b) e → first_above (list_sizes b r) ≡ None → IsListed b e
 is_listed b m e r h ready is none = record { accepted = is_accepted b m e h ready; effect = has_effect b m e h ready; lists = ap (λ (x : List RawItem). first_above (list_sizes b x)) (sym is) ∙ none }
 
 -- a list that is too long is the first size that passes its limit
-pub list_large : (b : List ℕ) (m : WaveMap) (e : List EditItem) (r : List RawItem) (s : Size) → IsBytes b → IsMapOf b m → IsReady m.kind (values m.fields) e → r ≡ raw_items (fields b) e → first_above (list_sizes b r) ≡ Some s → large_after b e ≡ Some s
+pub list_large : (b : List ℕ) (m : WaveMap) (e : List EditItem) (r : List RawItem) (s : Size) → IsBytes b → IsMapOf b m → IsReady m.kind 0 (values m.fields) e → r ≡ raw_items (fields b) e → first_above (list_sizes b r) ≡ Some s → large_after b e ≡ Some s
 list_large b m e r s bytes h ready is some =
     list_passes b e bytes (why_supported b h.supported) (has_effect b m e h ready) s (ap (λ (x : List RawItem). first_above (list_sizes b x)) (sym is) ∙ some)
 

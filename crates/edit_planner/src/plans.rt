@@ -13,7 +13,7 @@ ghost use Rattle.wave_plan.specs.Frame.{IsFormOf, IsSoundForm};
 ghost use Rattle.wave_model.specs.Kind.{wave_kind};
 ghost use Rattle.wave_plan.specs.Widened.{FitsReserved};
 ghost use Rattle.edit_planner.specs.Kinds.{model_in};
-ghost use Rattle.edit_planner.specs.Plan.{IsReady, Maps, SoundMap, fields_in, kind_in, reserved_in, widening_in};
+ghost use Rattle.edit_planner.specs.Plan.{IsReady, Maps, SoundMap, fields_in, kind_in, reserved_in, streams_in, widening_in};
 
 use crate::wave::{PlaceFault, places_of};
 use core_edit::{Edit, raw_changes};
@@ -95,7 +95,7 @@ pub fn plan<D: Depot>(
 ) -> Result<Plan, PlanFault>
     requires mapped { (b : List ℕ) → Holds (D.disk depot.old) b → Maps b file.now }
     requires sound { SoundMap file.now }
-    requires ready { IsReady (kind_in file.now) (fields_in file.now) edit.now }
+    requires ready { IsReady (kind_in file.now) (streams_in file.now) (fields_in file.now) edit.now }
     ensures plans { (b : List ℕ) → Holds (D.disk depot.old) b → IsBytes b → PlansKind (model_in b) b edit.now result }
     ensures can { IfOk result (λ p. CanRun p) }
     ensures belongs { (b : List ℕ) → Holds (D.disk depot.old) b → IfOk result (λ p. Belongs p b) }
@@ -116,7 +116,7 @@ fn plan_wave<D: Depot>(
 ) -> Result<Plan, PlanFault>
     requires mapped { (b : List ℕ) → Holds (D.disk depot.old) b → IsMapOf b wave.now }
     requires sound { IsSound wave.now }
-    requires ready { IsReady wave.now.kind (values wave.now.fields) edit.now }
+    requires ready { IsReady wave.now.kind 0 (values wave.now.fields) edit.now }
     ensures plans { (b : List ℕ) → Holds (D.disk depot.old) b → IsBytes b → PlansKind wave_kind b edit.now result }
     ensures can { IfOk result (λ p. CanRun p) }
     ensures belongs { (b : List ℕ) → Holds (D.disk depot.old) b → IfOk result (λ p. Belongs p b) }

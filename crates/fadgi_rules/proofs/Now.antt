@@ -13,7 +13,7 @@ use Rattle.field_model.specs.Bext.{width}
 use Rattle.field_model.specs.Body.{FillsRange}
 use Rattle.field_model.specs.Broken.{some_text}
 use Rattle.field_model.specs.Fields.{FieldMap, first_raw}
-use Rattle.field_model.specs.Lawful.{IsLawful}
+use Rattle.field_model.specs.Lawful.{BextIsWhole}
 use Rattle.field_model.specs.Numbers.{is_negative}
 use Rattle.field_model.specs.Shown.{shown_texts}
 use Rattle.fadgi_rules.specs.declared.row.FieldRule.{FieldRule}
@@ -74,13 +74,13 @@ text_now r f name (inr (inr (inr (inr is)))) = subst (TextNow f name) (sym is) (
 abbrev RangeNow : FieldMap → FieldName → FieldRule → Type 0
 RangeNow f name r = LooksAt r name → shows_negative f ≡ fails r f name
 
-pub negative_now : (r : FieldRule) (f : FieldMap) (name : FieldName) → IsLawful f → r ≡ row.Range → RangeNow f name r
+pub negative_now : (r : FieldRule) (f : FieldMap) (name : FieldName) → BextIsWhole f → r ≡ row.Range → RangeNow f name r
 negative_now r f name lawful is =
     subst (RangeNow f name) (sym is)
     (λ looks. sym (range_now f lawful) ∙ ap (some_text is_negative f) (sym (one name (Bext LoudnessRange) looks.1)))
 
 -- a number of bext has two bytes, or there is none
-pub two_bytes : (f : FieldMap) (field : BextField) → width field ≡ 2 → (bext_row field ≡ 14 → ⊥) → IsLawful f → HasTwoBytes f field
+pub two_bytes : (f : FieldMap) (field : BextField) → width field ≡ 2 → (bext_row field ≡ 14 → ⊥) → BextIsWhole f → HasTwoBytes f field
 two_bytes f field wide other (inl all) = inr (go (all field).2)
   where
     go : FillsRange field (all field).0.raw → length (first_raw (f (Bext field))) ≡ 2

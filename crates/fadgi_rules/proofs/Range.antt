@@ -21,7 +21,7 @@ use Rattle.core_edit.specs.Edits.{AreSound}
 use Rattle.field_model.specs.Bext.{no_loudness, width}
 use Rattle.field_model.specs.Broken.{some_text}
 use Rattle.field_model.specs.Fields.{FieldMap, plain, version_of, first_raw}
-use Rattle.field_model.specs.Lawful.{IsLawful}
+use Rattle.field_model.specs.Lawful.{BextIsWhole}
 use Rattle.field_model.specs.Numbers.{is_negative, is_hundredths, hundredths_of, hundredths_text, two_digits, loudness_text, loudness_of, positive_loudness, negative_loudness}
 use Rattle.field_model.specs.Raw.{raw_of}
 use Rattle.field_model.specs.Shown.{shown_loudness, shown_texts}
@@ -105,7 +105,7 @@ one_shows version n = go (cases_lt version 2)
         ap (λ (t : Bool). list_any is_negative (cons_option (cond (t || (n == 32767)) None (Some (loudness_text n))) [])) (le-ltb version 2 le)
         ∙ by le (n == 32767) refl ∙ sym (ap (λ (t : Bool). t && nat_le 32768 n) (le-leb 2 version le))
 
-pub range_now : (f : FieldMap) → IsLawful f → some_text is_negative f (Bext LoudnessRange) ≡ shows_negative f
+pub range_now : (f : FieldMap) → BextIsWhole f → some_text is_negative f (Bext LoudnessRange) ≡ shows_negative f
 range_now f (inl all) =
     let v = all LoudnessRange in
     ap (λ (vs : List Value). list_any is_negative (texts_at (version_of f) vs)) v.1 ∙ one_shows (version_of f) (le v.0.raw)
@@ -206,7 +206,7 @@ abbrev raised_to : Bool → ℕ → BextField → FieldMap → List Value
 raised_to kept to field f = cond kept (made f field) (raised_form (Rattle.field_model.specs.Bext.form_of field) to (version_of f) (made f field))
 
 -- a range that no item changes shows what it showed
-raised_shows : (f : FieldMap) (to : ℕ) (kept : Bool) → IsLawful f → to ≤ 2 → nat_le to (version_of f) ≡ kept
+raised_shows : (f : FieldMap) (to : ℕ) (kept : Bool) → BextIsWhole f → to ≤ 2 → nat_le to (version_of f) ≡ kept
     → texts_at (le (first_raw (raised_to kept to Version f))) (raised_to kept to LoudnessRange f) ≡ texts_at (version_of f) (f (Bext LoudnessRange))
 raised_shows f to true (inl all) small h =
     let v = all Version in
@@ -225,7 +225,7 @@ raised_shows f to false lawful small h =
     go true e = blank_none (le (le_bytes 2 to))
     go false e = low_none (le (le_bytes 2 to)) (made f LoudnessRange) (let other = eqb-false to 2 e in omega (arith, small_version to small, small, other))
 
-still : (kind : Kind) (streams : ℕ) (f : FieldMap) (e : List EditItem) → IsLawful f → AreSound e → EffectsPass kind streams f e → change_in f e (Bext LoudnessRange) ≡ None → shown_texts (update f e) (Bext LoudnessRange) ≡ shown_texts f (Bext LoudnessRange)
+still : (kind : Kind) (streams : ℕ) (f : FieldMap) (e : List EditItem) → BextIsWhole f → AreSound e → EffectsPass kind streams f e → change_in f e (Bext LoudnessRange) ≡ None → shown_texts (update f e) (Bext LoudnessRange) ≡ shown_texts f (Bext LoudnessRange)
 still kind streams f e lawful sound pass none =
     ap (texts_at (version_of (update f e))) (bext_after f e LoudnessRange sound ∙ ap (λ (c : Option Change). after (Bext LoudnessRange) c (ready f e LoudnessRange)) none)
     ∙ ap (λ (version : ℕ). texts_at version (ready f e LoudnessRange)) (version_after kind streams f e sound pass)
@@ -242,7 +242,7 @@ gone f e sound to =
 
 -- ---- a range that is set
 
-version_two : (f : FieldMap) (to : ℕ) (kept : Bool) → IsLawful f → 2 ≤ to → to ≤ 2 → nat_le to (version_of f) ≡ kept → 2 ≤ le (first_raw (raised_to kept to Version f))
+version_two : (f : FieldMap) (to : ℕ) (kept : Bool) → BextIsWhole f → 2 ≤ to → to ≤ 2 → nat_le to (version_of f) ≡ kept → 2 ≤ le (first_raw (raised_to kept to Version f))
 version_two f to true (inl all) low high h =
     let v = all Version in
     omega (arith, low, leb-true to (version_of f) h, ap (λ (vs : List Value). le (first_raw vs)) (made_there f Version v.0 v.1))
@@ -279,7 +279,7 @@ writes text n h = go (is_negative text) refl h
         let high : hundredths_of text ≤ 32766 = leb-true (hundredths_of text) 32766 (and_parts (is_hundredths text) _ z.0).1 in
         (omega (arith, high, z.1), λ e. omega (arith, high, z.1, e), lt-leb 32768 n (omega (arith, high, z.1)) ∙ sym is)
 
-set_shows : (kind : Kind) (streams : ℕ) (f : FieldMap) (e : List EditItem) (text : List ℕ) (n : ℕ) → IsLawful f → AreSound e → EffectsPass kind streams f e → change_in f e (Bext LoudnessRange) ≡ Some (Set text) → loudness_of text ≡ Some n
+set_shows : (kind : Kind) (streams : ℕ) (f : FieldMap) (e : List EditItem) (text : List ℕ) (n : ℕ) → BextIsWhole f → AreSound e → EffectsPass kind streams f e → change_in f e (Bext LoudnessRange) ≡ Some (Set text) → loudness_of text ≡ Some n
     → some_text is_negative (update f e) (Bext LoudnessRange) ≡ is_negative text
 set_shows kind streams f e text n lawful sound pass to is =
     let w = writes text n is in
@@ -297,7 +297,7 @@ set_shows kind streams f e text n lawful sound pass to is =
     ∙ ap (λ (o : Option (List ℕ)). list_any is_negative (cons_option o [])) (high_shows (version_of (update f e)) n version w.1)
     ∙ or_false (is_negative (loudness_text n)) ∙ sign n ∙ w.2
 
-pub range_after : (kind : Kind) (streams : ℕ) (f : FieldMap) (e : List EditItem) → IsLawful f → AreSound e → EffectsPass kind streams f e
+pub range_after : (kind : Kind) (streams : ℕ) (f : FieldMap) (e : List EditItem) → BextIsWhole f → AreSound e → EffectsPass kind streams f e
     → some_text is_negative (update f e) (Bext LoudnessRange) ≡ changed_fails row.Range f (Bext LoudnessRange) (change_in f e (Bext LoudnessRange))
 range_after kind streams f e lawful sound pass = go (change_in f e (Bext LoudnessRange)) refl
   where

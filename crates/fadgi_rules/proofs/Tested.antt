@@ -9,7 +9,7 @@ use Rattle.part_tree.specs.declared.field.Change.{Change}
 use Rattle.part_tree.specs.declared.field.Change.TheVariants.{Set, Remove}
 use Rattle.part_tree.specs.declared.field.EditItem.{EditItem}
 use Rattle.part_tree.specs.declared.field.FieldName.{FieldName}
-use Rattle.part_tree.specs.declared.field.FieldName.TheVariants.{Bext, Info, Whole, User, Key, Stream}
+use Rattle.part_tree.specs.declared.field.FieldName.TheVariants.{Bext, Info, User}
 use Rattle.part_tree.specs.declared.field.Form.{Form}
 use Rattle.part_tree.specs.declared.field.Form.TheVariants.{Text}
 use Rattle.part_tree.specs.declared.field.Value.{Value}
@@ -25,7 +25,7 @@ use Rattle.field_model.specs.Broken.{some_text, shows_too_little, ends_with_zero
 use Rattle.field_model.specs.Dates.{is_date, is_time, is_info_date, spelled_date, spelled_time}
 use Rattle.field_model.specs.Fields.{FieldMap}
 use Rattle.field_model.specs.History.{is_history}
-use Rattle.field_model.specs.Lawful.{IsLawful}
+use Rattle.field_model.specs.Lawful.{BextIsWhole}
 use Rattle.field_model.specs.Raw.{raw_of, raw_form, fits_width, padded}
 use Rattle.field_model.specs.Rules.{form_number, is_info, is_short, is_printable}
 use Rattle.field_model.specs.Shown.{unless_empty, shown_texts}
@@ -116,7 +116,7 @@ tested test f name None = some_text test f name
 tested test f name (Some Remove) = false
 tested test f name (Some (Set text)) = test text
 
-text_after : (test : List ℕ → Bool) (f : FieldMap) (e : List EditItem) (name : FieldName) → IsLawful f → AreSound e → Texted name
+text_after : (test : List ℕ → Bool) (f : FieldMap) (e : List EditItem) (name : FieldName) → BextIsWhole f → AreSound e → Texted name
     → ((text : List ℕ) → change_in f e name ≡ Some (Set text) → ShowsFor test (update f e) name text)
     → some_text test (update f e) name ≡ tested test f name (change_in f e name)
 text_after test f e name lawful sound h sets = go (change_in f e name) refl
@@ -137,7 +137,7 @@ lacked f name None = shows_too_little f name
 lacked f name (Some Remove) = true
 lacked f name (Some (Set text)) = is_empty text
 
-lack_after : (f : FieldMap) (e : List EditItem) (name : FieldName) → IsLawful f → AreSound e → Texted name
+lack_after : (f : FieldMap) (e : List EditItem) (name : FieldName) → BextIsWhole f → AreSound e → Texted name
     → ((text : List ℕ) → change_in f e name ≡ Some (Set text) → ShowsFor is_empty (update f e) name text)
     → shows_too_little (update f e) name ≡ lacked f name (change_in f e name)
 lack_after f e name lawful sound h sets = go (change_in f e name) refl
@@ -166,7 +166,7 @@ by_cases a b none gone to None = none
 by_cases a b none gone to (Some Remove) = gone
 by_cases a b none gone to (Some (Set text)) = to text
 
-module _ (kind : Kind) (streams : ℕ) (f : FieldMap) (e : List EditItem) (lawful : IsLawful f) (sound : AreSound e) (pass : EffectsPass kind streams f e) where
+module _ (kind : Kind) (streams : ℕ) (f : FieldMap) (e : List EditItem) (lawful : BextIsWhole f) (sound : AreSound e) (pass : EffectsPass kind streams f e) where
   abbrev Holds : FieldRule → FieldName → Type 0
   Holds r name = fails r (update f e) name ≡ changed_fails r f name (change_in f e name)
 

@@ -9,7 +9,7 @@ use Rattle.part_tree.specs.declared.field.Change.{Change}
 use Rattle.part_tree.specs.declared.field.Change.TheVariants.{Set, Remove}
 use Rattle.part_tree.specs.declared.field.EditItem.{EditItem}
 use Rattle.part_tree.specs.declared.field.FieldName.{FieldName}
-use Rattle.part_tree.specs.declared.field.FieldName.TheVariants.{Bext, Info, Whole, User, Key, Stream}
+use Rattle.part_tree.specs.declared.field.FieldName.TheVariants.{Bext, Info, User}
 use Rattle.part_tree.specs.declared.field.Form.{Form}
 use Rattle.part_tree.specs.declared.field.Form.TheVariants.{Text, Date, Time, Count, Umid, Loudness, Reserved}
 use Rattle.part_tree.specs.declared.field.Form.TheVariants as form
@@ -20,7 +20,7 @@ use Rattle.part_tree.proofs.Places.{same_is_equal}
 use Rattle.core_edit.specs.Edits.{AreSound, is_empty_set}
 use Rattle.field_model.specs.Bext.{form_of, width, blank_form}
 use Rattle.field_model.specs.Fields.{FieldMap, plain, version_of}
-use Rattle.field_model.specs.Lawful.{IsLawful}
+use Rattle.field_model.specs.Lawful.{BextIsWhole}
 use Rattle.field_model.specs.Raw.{raw_of}
 use Rattle.field_model.specs.Shown.{before_zero, unless_empty, shown, shown_form, shown_texts}
 use Rattle.field_model.specs.Update.{RawItem, has_effect, written, raw_items, listed, updated_values, is_bext, needed, made, raised_form, raised_values, update}
@@ -163,7 +163,7 @@ made_there f field v h = cond-false (length (f (Bext Version)) == 0) _ _ (ap (λ
 pub made_new : (f : FieldMap) (field : BextField) → f (Bext Version) ≡ [] → made f field ≡ plain (replicate (width field) 0) ∷ []
 made_new f field h = cond-true (length (f (Bext Version)) == 0) _ _ (ap (λ (ws : List Value). length ws == 0) h)
 
-made_shows : (f : FieldMap) (field : BextField) → IsLawful f → texts (Bext field) (made f field) ≡ texts (Bext field) (f (Bext field))
+made_shows : (f : FieldMap) (field : BextField) → BextIsWhole f → texts (Bext field) (made f field) ≡ texts (Bext field) (f (Bext field))
 made_shows f field (inl all) =
     let v = all Version in
     ap (texts (Bext field)) (made_there f field v.0 v.1)
@@ -172,7 +172,7 @@ made_shows f field (inr none) =
     ∙ ap (λ (raw : List ℕ). cons_option (unless_empty raw) []) (zeros_empty (width field))
     ∙ ap (texts (Bext field)) (sym (none field))
 
-ready_shows : (f : FieldMap) (e : List EditItem) (field : BextField) → IsLawful f → TextForm (form_of field) → texts (Bext field) (ready f e field) ≡ texts (Bext field) (f (Bext field))
+ready_shows : (f : FieldMap) (e : List EditItem) (field : BextField) → BextIsWhole f → TextForm (form_of field) → texts (Bext field) (ready f e field) ≡ texts (Bext field) (f (Bext field))
 ready_shows f e field lawful h = go (touches f e)
   where
     go : (t : Bool) → texts (Bext field) (cond t (raised_values (needed (raw_items f e)) (version_of f) field (made f field)) (f (Bext field))) ≡ texts (Bext field) (f (Bext field))
@@ -182,7 +182,7 @@ ready_shows f e field lawful h = go (touches f e)
 -- ---- the texts after an edit
 
 -- a name that no item changes
-pub shows_still : (f : FieldMap) (e : List EditItem) (name : FieldName) → IsLawful f → AreSound e → Texted name → change_in f e name ≡ None → shown_texts (update f e) name ≡ shown_texts f name
+pub shows_still : (f : FieldMap) (e : List EditItem) (name : FieldName) → BextIsWhole f → AreSound e → Texted name → change_in f e name ≡ None → shown_texts (update f e) name ≡ shown_texts f name
 shows_still f e (Bext field) lawful sound h none =
     shown_plain (update f e) (Bext field) h
     ∙ ap (texts (Bext field)) (bext_after f e field sound ∙ ap (λ (c : Option Change). after (Bext field) c (ready f e field)) none)

@@ -1,7 +1,7 @@
 // Worked rows.
-ghost use Rattle.std.specs.Prelude.{◌≡◌, [], IfOk};
+ghost use Rattle.std.specs.Prelude.{◌≡◌, ℕ, List, [], IfOk};
 ghost use Rattle.part_tree.specs.declared.field.BextField.{BextField as BextName};
-ghost use Rattle.part_tree.specs.declared.field.FieldName.TheVariants.{Bext};
+ghost use Rattle.part_tree.specs.declared.field.FieldName.TheVariants.{Bext, Key};
 ghost use Rattle.part_tree.specs.Fields.{values};
 ghost use Rattle.core_edit.specs.Edits.{IsNamed};
 
@@ -187,8 +187,10 @@ fn the_lower_rule_and_the_first_field_are_told(rt: HostRuntime) -> Result<(), Fa
 
 // The fields with one more value of INFO.
 fn with_info(alloc: Global, mut fields: Fields, id: &[u8; 4], raw: &[u8]) -> Result<Fields, Fail>
-    requires { (field : BextName) → values fields (Bext field) ≡ [] }
-    ensures { IfOk result (λ new. (field : BextName) → values new (Bext field) ≡ []) }
+    requires bext { (field : BextName) → values fields (Bext field) ≡ [] }
+    requires keys { (key : List ℕ) → values fields (Key key) ≡ [] }
+    ensures bext { IfOk result (λ new. (field : BextName) → values new (Bext field) ≡ []) }
+    ensures keys { IfOk result (λ new. (key : List ℕ) → values new (Key key) ≡ []) }
 {
     let name = FieldName::Info(FourCc(*id));
     let value = Value {
@@ -202,6 +204,7 @@ fn with_info(alloc: Global, mut fields: Fields, id: &[u8; 4], raw: &[u8]) -> Res
 }
 
 #[test]
+#[tactic(auto, using(field_model::proofs::Fills::none_lawful))]
 fn fields_as_they_stand(rt: HostRuntime) -> Result<(), Fail> {
     let heap = rt.alloc();
     let none = Fields::new(heap);

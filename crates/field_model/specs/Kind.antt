@@ -97,5 +97,5 @@ pub record IsKind (k : KindModel) : Type 0 where
   pub no_larger : (o : List ℕ) (e : List EditItem) → IsBytes o → k.why o ≡ None → k.too_large o e ≡ None → (effective (k.fields o) e ≡ []) ⊎ (length (k.new_file o e) ≤ 2 ^ 63 - 1)
   -- the items that have an effect come to the same as all items
   pub by_effect : (o : List ℕ) (e all : List EditItem) → e ≡ effective (k.fields o) all → SameEdit k o e all
-  -- each field of `bext` is there, as long as its range, or none is
+  -- each field of `bext` is there, as long as its range, or none is; each value of a key has its type and locale
   pub lawful : (o : List ℕ) → IsBytes o → k.why o ≡ None → IsLawful (k.fields o)

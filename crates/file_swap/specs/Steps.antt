@@ -11,7 +11,6 @@ use Rattle.me_disk.specs.Calls.Call.{BeginWork, AppendWork, SyncWork, InstallMai
 use Rattle.edit_journal.specs.Journal.{spelled, bytes_in_place}
 use Rattle.part_tree.specs.declared.table.TableForm.{TableForm}
 use Rattle.part_tree.specs.Moves.{Move}
-use Rattle.part_tree.specs.Patches.{all_bytes}
 use Rattle.part_tree.specs.Tables.{width, new_width, relocated}
 
 -- what becomes of the bytes that were read: they stay, or they are so many rows of a table, whose places move

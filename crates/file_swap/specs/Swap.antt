@@ -1,14 +1,13 @@
 -- A swap as its callers see it, and what a run of it leaves.
-use Rattle.std.specs.Prelude.{◌≡◌, ◌≢◌, ℕ, ◌+◌, ◌-◌, ◌≤◌, Bool, false, IsTrue, List, [], Result, OnOk}
-use Rattle.std.specs.declared.option.Option.TheVariants.{None}
+use Rattle.std.specs.Prelude.{◌≡◌, ◌≢◌, ℕ, ◌+◌, ◌-◌, ◌≤◌, min, Bool, false, IsTrue, List, [], Option, None, Result, OnOk}
 use Rattle.part_tree.specs.declared.plan.Plan.{Plan}
 use Rattle.file_swap.specs.declared.machine.Turn.{Turn}
 use Rattle.file_swap.specs.declared.machine.Turn.TheVariants.{Fault}
 use Rattle.me_disk.specs.declared.depot.DepotFault.{DepotFault}
 use Rattle.me_disk.specs.Disk.{Disk, Leaves}
-use Rattle.me_disk.specs.Steps.{Writes, HasCause}
+use Rattle.me_disk.specs.Steps.{Counted, Writes, HasCause}
 use Rattle.edit_journal.specs.Settled.{StandsAlone}
-use Rattle.file_swap.specs.Steps.{bytes_by, bytes_written}
+use Rattle.file_swap.specs.Steps.{bytes_by, bytes_written, calls}
 use Rattle.part_tree.specs.Plans.{applied, Belongs}
 use Rattle.file_swap.specs.Midway.{Midway, SettlesEither, held_at}
 
@@ -18,6 +17,10 @@ pub record Swapping : Type 0 where
   pub made : ℕ
   pub held : List ℕ
   pub failed : Bool
+
+-- how many calls its next turn makes: one, and none after the last
+abbrev pub next_calls : Swapping → ℕ
+next_calls s = min 1 (calls s.plan - s.made)
 
 -- before the first call
 abbrev pub fresh : Plan → Swapping
@@ -45,3 +48,8 @@ pub record Runs (s : Swapping) (o : List ℕ) (old new : Disk) (result : Result 
   pub crash : Leaves (SettlesEither o (applied s.plan o)) old new
   pub written : Writes (bytes_written s.plan - bytes_by s.plan s.made) old new result
   pub cause : HasCause old new result
+
+-- a run makes at most the calls that were left, and all of them at Ok
+pub record RunCounts (left : ℕ) (old new : Option ℕ) (result : Result Unit DepotFault) : Type 0 where
+  pub most : (n : ℕ) × (n ≤ left) × Counted n old new
+  pub exact : OnOk result (Counted left old new)

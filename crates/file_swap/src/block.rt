@@ -3,7 +3,7 @@ ghost use Rattle.std.specs.Prelude.{◌≡◌, ◌+◌, ◌-◌, ◌≤◌, ◌<
 ghost use Rattle.me_disk.specs.Calls.{Allows};
 ghost use Rattle.me_disk.specs.Calls.Call.{AppendWork, WriteMain};
 ghost use Rattle.me_disk.specs.Disk.{bytes_of};
-ghost use Rattle.me_disk.specs.Steps.{Does, HasCause, ReadsOnly};
+ghost use Rattle.me_disk.specs.Steps.{Counted, Does, HasCause, ReadsOnly};
 ghost use Rattle.file_swap.specs.Steps.{part, block};
 
 use me_disk::{Depot, DepotFault, Slot};
@@ -29,7 +29,8 @@ pub(crate) fn append_block<D: Depot>(
 ) -> Result<(), DepotFault>
     requires from { from < length bytes.now }
     requires allows { Allows (AppendWork (part bytes.now (record { at = from; len = min block (length bytes.now - from) }))) (D.disk depot.old) }
-    ensures { Does (AppendWork (part bytes.now (record { at = from; len = min block (length bytes.now - from) }))) (D.disk depot.old) (D.disk depot.new) result }
+    ensures does { Does (AppendWork (part bytes.now (record { at = from; len = min block (length bytes.now - from) }))) (D.disk depot.old) (D.disk depot.new) result }
+    ensures counted { Counted 1 (D.calls depot.old) (D.calls depot.new) }
 {
     depot.append_work(block_of(bytes, from))
 }
@@ -39,7 +40,8 @@ pub(crate) fn write_block<D: Depot>(depot: &mut D, p: &Patch, from: usize) -> Re
     requires from { from < length p.now.bytes }
     requires fits { p.now.at + length p.now.bytes < 2 ^ 63 }
     requires allows { Allows (WriteMain (p.now.at + from) (part p.now.bytes (record { at = from; len = min block (length p.now.bytes - from) }))) (D.disk depot.old) }
-    ensures { Does (WriteMain (p.now.at + from) (part p.now.bytes (record { at = from; len = min block (length p.now.bytes - from) }))) (D.disk depot.old) (D.disk depot.new) result }
+    ensures does { Does (WriteMain (p.now.at + from) (part p.now.bytes (record { at = from; len = min block (length p.now.bytes - from) }))) (D.disk depot.old) (D.disk depot.new) result }
+    ensures counted { Counted 1 (D.calls depot.old) (D.calls depot.new) }
 {
     depot.write_main(p.at + from as u64, block_of(p.bytes.as_slice(), from))
 }
@@ -56,6 +58,7 @@ pub(crate) fn read_block<D: Depot>(
     ensures held { OnOk result (IsTrue (D.disk depot.old).tells → take n buffer.new ≡ take n (drop at (bytes_of (D.disk depot.old).slots.main))) }
     ensures reads { ReadsOnly (D.disk depot.old) (D.disk depot.new) }
     ensures cause { HasCause (D.disk depot.old) (D.disk depot.new) result }
+    ensures counted { Counted 1 (D.calls depot.old) (D.calls depot.new) }
 {
     let block = &mut buffer[..n];
     depot.read_at(Slot::Main, at, block)
@@ -69,7 +72,8 @@ pub(crate) fn append_read<D: Depot>(
 ) -> Result<(), DepotFault>
     requires room { n ≤ length buffer.now }
     requires allows { Allows (AppendWork (take n buffer.now)) (D.disk depot.old) }
-    ensures { Does (AppendWork (take n buffer.now)) (D.disk depot.old) (D.disk depot.new) result }
+    ensures does { Does (AppendWork (take n buffer.now)) (D.disk depot.old) (D.disk depot.new) result }
+    ensures counted { Counted 1 (D.calls depot.old) (D.calls depot.new) }
 {
     depot.append_work(&buffer[..n])
 }

@@ -3,11 +3,12 @@ ghost use Rattle.std.specs.Prelude.{◌≡◌, ◌≢◌, ◌+◌, ◌<◌, ◌�
 ghost use Rattle.part_tree.specs.declared.plan.Plan.{Plan};
 ghost use Rattle.me_disk.specs.Causes.{Rose};
 ghost use Rattle.me_disk.specs.Disk.{Leaves};
+ghost use Rattle.me_disk.specs.Steps.{Counted};
 ghost use Rattle.file_swap.specs.Steps.{steps, calls, step_at, step_bytes};
 ghost use Rattle.part_tree.specs.Plans.{CanRun};
 ghost use Rattle.file_swap.specs.Fits.{Permits, StepDoes, HoldsAfter};
 ghost use Rattle.file_swap.specs.Midway.{IsNear};
-ghost use Rattle.file_swap.specs.Swap.{fresh, Underway, Runs, TurnWrites};
+ghost use Rattle.file_swap.specs.Swap.{fresh, next_calls, Underway, Runs, TurnWrites};
 
 use crate::in_place::Patching;
 use crate::rewrite::Rewriting;
@@ -85,6 +86,7 @@ impl Machine {
         ensures plan { plan_of self.new ≡ plan_of self.old }
         ensures left { OnOk result (left self.old ≡ step_of self.old ∷ left self.new) }
         ensures does { StepDoes (step_of self.old) (held_of self.old) (D.disk depot.old) (D.disk depot.new) result }
+        ensures counted { Counted 1 (D.calls depot.old) (D.calls depot.new) }
         ensures holds { OnOk result (HoldsAfter (step_of self.old) (held_of self.new) (D.disk depot.old)) }
         ensures stays { OnErr result ((left self.new ≡ left self.old) × (held_of self.new ≡ held_of self.old)) }
     {
@@ -127,6 +129,7 @@ impl Core {
         ensures crash { Leaves (IsNear (swap_of self.old).plan old (swap_of self.old).made) (D.disk depot.old) (D.disk depot.new) }
         ensures written { TurnWrites (step_bytes (step_at (swap_of self.old).plan (swap_of self.old).made)) (D.disk depot.old) (D.disk depot.new) result }
         ensures cause { result ≡ Turn.Fault → Rose (D.disk depot.old).faults (D.disk depot.new).faults }
+        ensures counted { Counted (next_calls (swap_of self.old)) (D.calls depot.old) (D.calls depot.new) }
         ensures idle { (swap_of self.old).made ≡ calls (swap_of self.old).plan → (result ≡ Turn.Done) × (depot.new ≡ depot.old) }
     {
         if self.machine.is_ended() {

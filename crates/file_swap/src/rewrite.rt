@@ -1,6 +1,7 @@
 // A new file out of ranges of the old one and bytes of its own.
 ghost use Rattle.std.specs.Prelude.{◌≡◌, ◌≢◌, ℕ, ◌+◌, ◌-◌, ◌≤◌, ◌<◌, ◌^◌, ◌∷◌, [], min, List, length, take, drop, IsTrue, IfOk, OnOk, OnErr, IfSome, IfNone, ◌↔◌};
 ghost use Rattle.me_disk.specs.Disk.{bytes_of};
+ghost use Rattle.me_disk.specs.Steps.{Counted};
 ghost use Rattle.part_tree.specs.Plans.{AddsUp};
 ghost use Rattle.file_swap.specs.Parts.{span_of, literal_of};
 ghost use Rattle.file_swap.specs.Fits.{Permits, StepDoes, HoldsAfter};
@@ -262,6 +263,7 @@ impl Rewriting {
         ensures stays { held_of self.new ≡ held_of self.old }
         ensures read { OnOk result (HasRead (step_of self.old.parts self.old.stage) self.new.buffer.items (D.disk depot.old)) }
         ensures does { StepDoes (step_of self.old.parts self.old.stage) (held_of self.old) (D.disk depot.old) (D.disk depot.new) result }
+        ensures counted { Counted 1 (D.calls depot.old) (D.calls depot.new) }
     {
         match self.stage {
             Stage::Start => depot.begin_work(),
@@ -306,6 +308,7 @@ impl Rewriting {
         ensures parts { self.new.parts ≡ self.old.parts }
         ensures left { OnOk result (left self.old.parts self.old.stage ≡ step_of self.old.parts self.old.stage ∷ left self.new.parts self.new.stage) }
         ensures does { StepDoes (step_of self.old.parts self.old.stage) (held_of self.old) (D.disk depot.old) (D.disk depot.new) result }
+        ensures counted { Counted 1 (D.calls depot.old) (D.calls depot.new) }
         ensures holds { OnOk result (HoldsAfter (step_of self.old.parts self.old.stage) (held_of self.new) (D.disk depot.old)) }
         ensures stays { OnErr result ((self.new.stage ≡ self.old.stage) × (held_of self.new ≡ held_of self.old)) }
     {

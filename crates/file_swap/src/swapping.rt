@@ -1,11 +1,12 @@
 // A swap, as its callers see it.
-ghost use Rattle.std.specs.Prelude.{◌≡◌, ◌≢◌, ◌+◌, ◌<◌, true, min, ℕ, List, IfOk};
+ghost use Rattle.std.specs.Prelude.{◌≡◌, ◌≢◌, ◌+◌, ◌-◌, ◌<◌, true, min, ℕ, List, IfOk};
 ghost use Rattle.me_disk.specs.Causes.{Rose};
 ghost use Rattle.me_disk.specs.Disk.{Leaves};
+ghost use Rattle.me_disk.specs.Steps.{Counted};
 ghost use Rattle.file_swap.specs.Steps.{calls, step_at, step_bytes};
 ghost use Rattle.part_tree.specs.Plans.{CanRun};
 ghost use Rattle.file_swap.specs.Midway.{IsNear};
-ghost use Rattle.file_swap.specs.Swap.{fresh, Underway, Runs, TurnWrites};
+ghost use Rattle.file_swap.specs.Swap.{fresh, next_calls, Underway, Runs, RunCounts, TurnWrites};
 
 use crate::machine::{Core, Turn};
 use me_disk::{Depot, DepotFault};
@@ -58,6 +59,7 @@ impl Swap {
         ensures crash { Leaves (IsNear self.old.plan old self.old.made) (D.disk depot.old) (D.disk depot.new) }
         ensures written { TurnWrites (step_bytes (step_at self.old.plan self.old.made)) (D.disk depot.old) (D.disk depot.new) result }
         ensures cause { result ≡ Turn.Fault → Rose (D.disk depot.old).faults (D.disk depot.new).faults }
+        ensures counted { Counted (next_calls self.old) (D.calls depot.old) (D.calls depot.new) }
         ensures idle { self.old.made ≡ calls self.old.plan → (result ≡ Turn.Done) × (depot.new ≡ depot.old) }
     {
         self.core.turn(depot)
@@ -68,7 +70,8 @@ impl Swap {
     pub fn run<D: Depot>(mut self, depot: &mut D) -> Result<(), DepotFault>
         ghost old: { List ℕ }
         requires { Underway self old (D.disk depot.old) }
-        ensures { Runs self old (D.disk depot.old) (D.disk depot.new) result }
+        ensures runs { Runs self old (D.disk depot.old) (D.disk depot.new) result }
+        ensures counted { RunCounts (calls self.plan - self.made) (D.calls depot.old) (D.calls depot.new) result }
     {
         loop {
             match self.turn(depot) {

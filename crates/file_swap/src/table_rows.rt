@@ -2,7 +2,7 @@
 ghost use Rattle.std.specs.Prelude.{◌≡◌, ◌+◌, ◌*◌, ◌≤◌, ◌<◌, ◌^◌, length, take};
 ghost use Rattle.me_disk.specs.Calls.{Allows};
 ghost use Rattle.me_disk.specs.Calls.Call.{AppendWork};
-ghost use Rattle.me_disk.specs.Steps.{Does};
+ghost use Rattle.me_disk.specs.Steps.{Counted, Does};
 ghost use Rattle.part_tree.specs.Tables.{HasBase, new_width, relocated, width};
 ghost use Rattle.file_swap.specs.Parts.{table_of};
 
@@ -79,7 +79,8 @@ pub(crate) fn append_rows<D: Depot>(
     requires room { 65536 ≤ length buffer.now }
     requires moved_room { 65536 ≤ length moved.old }
     requires allows { Allows (AppendWork (relocated moves.now form.now rows (take (width form.now * rows) buffer.now))) (D.disk depot.old) }
-    ensures { Does (AppendWork (relocated moves.now form.now rows (take (width form.now * rows) buffer.now))) (D.disk depot.old) (D.disk depot.new) result }
+    ensures does { Does (AppendWork (relocated moves.now form.now rows (take (width form.now * rows) buffer.now))) (D.disk depot.old) (D.disk depot.new) result }
+    ensures counted { Counted 1 (D.calls depot.old) (D.calls depot.new) }
 {
     let held = &buffer[..form.width() * rows];
     let page = &mut moved[..form.new_width() * rows];

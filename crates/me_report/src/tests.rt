@@ -1,7 +1,7 @@
 // Worked rows.
-ghost use Rattle.std.specs.Prelude.{◌≡◌, [], OnOk, IfOk};
+ghost use Rattle.std.specs.Prelude.{◌≡◌, ℕ, List, [], OnOk, IfOk};
 ghost use Rattle.part_tree.specs.declared.field.BextField.{BextField};
-ghost use Rattle.part_tree.specs.declared.field.FieldName.TheVariants.{Bext, Info};
+ghost use Rattle.part_tree.specs.declared.field.FieldName.TheVariants.{Bext, Info, Key};
 ghost use Rattle.part_tree.specs.Fields.{values};
 ghost use Rattle.part_tree.specs.Letters.{four};
 ghost use Rattle.part_tree.specs.Names.{IsFieldName};
@@ -188,7 +188,9 @@ impl Shows for Map {
 fn add_info(alloc: Global, fields: &mut Fields, id: [u8; 4], raw: &[u8]) -> Result<(), Fail>
     requires field { IsFieldName (Info (four id)) }
     requires none { (field : BextField) → values fields.old (Bext field) ≡ [] }
+    requires keys { (key : List ℕ) → values fields.old (Key key) ≡ [] }
     ensures none { OnOk result ((field : BextField) → values fields.new (Bext field) ≡ []) }
+    ensures keys { OnOk result ((key : List ℕ) → values fields.new (Key key) ≡ []) }
 {
     let value = Value {
         lang: 0,
@@ -198,8 +200,10 @@ fn add_info(alloc: Global, fields: &mut Fields, id: [u8; 4], raw: &[u8]) -> Resu
     Ok(())
 }
 
+#[tactic(auto, using(field_model::proofs::Fills::none_lawful))]
 fn shown_of(alloc: Global, map: &Map) -> Result<Bytes, Fail>
     requires none { (field : BextField) → values map.now.fields (Bext field) ≡ [] }
+    requires keys { (key : List ℕ) → values map.now.fields (Key key) ≡ [] }
 {
     let mut depot = SparseDepot::new(alloc, None)?;
     match show_text(alloc, &mut depot, map) {

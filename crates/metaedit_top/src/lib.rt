@@ -5,10 +5,10 @@
 #![tactic(auto)]
 
 mod change;
-mod file;
 mod outcome;
 mod run;
 mod set;
+mod stops;
 mod tell;
 #[cfg(test)]
 mod tests;
@@ -17,7 +17,6 @@ mod top;
 mod word;
 mod words;
 
-pub use file::read_file;
 pub use me_report::Summary;
 pub use outcome::{Outcome, UsageFault};
 pub use part_tree::Why;

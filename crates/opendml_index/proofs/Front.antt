@@ -15,7 +15,7 @@ use Rattle.opendml_index.proofs.Known.{same_true, super_kind}
 use Rattle.part_tree.specs.declared.table.IndexHead.{IndexHead}
 use Rattle.opendml_index.specs.declared.head.IndexKind.{IndexKind}
 use Rattle.opendml_index.specs.declared.head.IndexKind.TheVariants.{Super, Standard, TwoFields}
-use Rattle.opendml_index.specs.Heads.{OfKind, IsFront, IsHead, longs, standard, two_fields, one_field_kind, two_field_kind, head_tests}
+use Rattle.opendml_index.specs.Heads.{OfKind, IsFront, IsHead, longs, kind_wanted, standard, two_fields, one_field_kind, two_field_kind, head_tests}
 
 front_slice : (body : List ℕ) (i k : ℕ) → i + k ≤ 24 → slice (take 24 body) i k ≡ slice body i k
 front_slice body i k le = let place : 0 + i ≡ i = omega arith in slice_slice body 0 24 i k le ∙ ap (λ (p : ℕ). slice body p k) place
@@ -86,27 +86,15 @@ head_is body k h of is = record {
   base = is.base;
 }
 
-either_of : (a b c d : Bool) → (a || b) ≡ true → ((a || b) || (c || d)) ≡ true
-either_of true b c d h = refl
-either_of false true c d h = refl
-either_of false false c d h = absurd cc
+wanted_front : (only : Bool) (body : List ℕ) → kind_wanted only (take 24 body) ≡ kind_wanted only body
+wanted_front true body = ap (λ (x : List ℕ). bytes_eq x one_field_kind || bytes_eq x two_field_kind) (kind_front body)
+wanted_front false body = index_front body
 
-third_of : (a b c d : Bool) → c ≡ true → ((a || b) || (c || d)) ≡ true
-third_of true b c d h = refl
-third_of false true c d h = refl
-third_of false false true d h = refl
-third_of false false false d h = absurd cc
+pub not_wanted : (only : Bool) (first body : List ℕ) → first ≡ take 24 body → kind_wanted only first ≡ false → kind_wanted only body ≡ false
+not_wanted only first body same e = sym (ap (kind_wanted only) same ∙ wanted_front only body) ∙ e
 
-fourth_of : (a b c d : Bool) → d ≡ true → ((a || b) || (c || d)) ≡ true
-fourth_of true b c d h = refl
-fourth_of false true c d h = refl
-fourth_of false false true d h = refl
-fourth_of false false false d h = h
-
-pub kind_known : (body : List ℕ) (k : IndexKind) → OfKind body k → is_index_kind body ≡ true
-kind_known body Super h = either_of (bytes_eq (kind body) (4 ∷ 0 ∷ 0 ∷ 0 ∷ [])) (bytes_eq (kind body) (4 ∷ 0 ∷ 1 ∷ 0 ∷ [])) (bytes_eq (kind body) one_field_kind) (bytes_eq (kind body) two_field_kind) h
-kind_known body Standard h = third_of (bytes_eq (kind body) (4 ∷ 0 ∷ 0 ∷ 0 ∷ [])) (bytes_eq (kind body) (4 ∷ 0 ∷ 1 ∷ 0 ∷ [])) (bytes_eq (kind body) one_field_kind) (bytes_eq (kind body) two_field_kind) h
-kind_known body TwoFields h = fourth_of (bytes_eq (kind body) (4 ∷ 0 ∷ 0 ∷ 0 ∷ [])) (bytes_eq (kind body) (4 ∷ 0 ∷ 1 ∷ 0 ∷ [])) (bytes_eq (kind body) one_field_kind) (bytes_eq (kind body) two_field_kind) h
+pub is_wanted : (only : Bool) (first body : List ℕ) → first ≡ take 24 body → kind_wanted only first ≡ true → kind_wanted only body ≡ true
+is_wanted only first body same e = sym (ap (kind_wanted only) same ∙ wanted_front only body) ∙ e
 
 -- ---- the tests
 
@@ -116,14 +104,14 @@ by3 header known there = first ((not header, Short) ∷ ((not known, Wrong) ∷ 
 pub no_header : (body : List ℕ) → has_header body ≡ false → first (head_tests is_index_kind body) ≡ Some Short
 no_header body e = ap (λ (x : Bool). by3 x (is_index_kind body) (has_entries body)) e
 
-pub no_kind : (body : List ℕ) → has_header body ≡ true → is_index_kind body ≡ false → first (head_tests is_index_kind body) ≡ Some Wrong
-no_kind body e k = ap (λ (x : Bool). by3 x (is_index_kind body) (has_entries body)) e ∙ ap (λ (x : Bool). by3 true x (has_entries body)) k
+pub no_kind : (of_kind : List ℕ → Bool) (body : List ℕ) → has_header body ≡ true → of_kind body ≡ false → first (head_tests of_kind body) ≡ Some Wrong
+no_kind of_kind body e k = ap (λ (x : Bool). by3 x (of_kind body) (has_entries body)) e ∙ ap (λ (x : Bool). by3 true x (has_entries body)) k
 
-pub no_entries : (body : List ℕ) → has_header body ≡ true → is_index_kind body ≡ true → has_entries body ≡ false → first (head_tests is_index_kind body) ≡ Some Short
-no_entries body e k n = ap (λ (x : Bool). by3 x (is_index_kind body) (has_entries body)) e ∙ ap (λ (x : Bool). by3 true x (has_entries body)) k ∙ ap (by3 true true) n
+pub no_entries : (of_kind : List ℕ → Bool) (body : List ℕ) → has_header body ≡ true → of_kind body ≡ true → has_entries body ≡ false → first (head_tests of_kind body) ≡ Some Short
+no_entries of_kind body e k n = ap (λ (x : Bool). by3 x (of_kind body) (has_entries body)) e ∙ ap (λ (x : Bool). by3 true x (has_entries body)) k ∙ ap (by3 true true) n
 
-pub all_there : (body : List ℕ) → has_header body ≡ true → is_index_kind body ≡ true → has_entries body ≡ true → first (head_tests is_index_kind body) ≡ None
-all_there body e k n = ap (λ (x : Bool). by3 x (is_index_kind body) (has_entries body)) e ∙ ap (λ (x : Bool). by3 true x (has_entries body)) k ∙ ap (by3 true true) n
+pub all_there : (of_kind : List ℕ → Bool) (body : List ℕ) → has_header body ≡ true → of_kind body ≡ true → has_entries body ≡ true → first (head_tests of_kind body) ≡ None
+all_there of_kind body e k n = ap (λ (x : Bool). by3 x (of_kind body) (has_entries body)) e ∙ ap (λ (x : Bool). by3 true x (has_entries body)) k ∙ ap (by3 true true) n
 
 pub entries_false : (body : List ℕ) (h : IndexHead) (l u : ℕ) → IsHead body h → l ≡ h.longs → u ≡ h.used → 24 ≤ length body → length body - 24 < 4 * l * u → has_entries body ≡ false
 entries_false body h l u is longs_too used_too low lt =

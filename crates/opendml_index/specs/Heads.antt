@@ -5,7 +5,7 @@ use Rattle.std.specs.Str.{bytes_eq}
 use Rattle.container_model.specs.Written.{slice}
 use Rattle.container_model.specs.Tests.{first}
 use Rattle.opendml_index.specs.Index.{is_super, width, index_base, used}
-use Rattle.opendml_index.specs.Kinds.{kind, is_index_kind, is_super_kind, has_header, has_entries}
+use Rattle.opendml_index.specs.Kinds.{kind, is_index_kind, is_standard_kind, is_super_kind, has_header, has_entries}
 use Rattle.part_tree.specs.declared.table.IndexHead.{IndexHead}
 use Rattle.opendml_index.specs.declared.head.HeadFault.{HeadFault}
 use Rattle.opendml_index.specs.declared.head.HeadFault.TheVariants.{Short, Wrong}
@@ -48,6 +48,16 @@ abbrev pub ReadsKind : List ℕ → Option IndexKind → Type 0
 ReadsKind body None = is_index_kind body ≡ false
 ReadsKind body (Some k) = OfKind body k
 
+-- any index, or a standard one
+abbrev pub kind_wanted : Bool → List ℕ → Bool
+kind_wanted true body = is_standard_kind body
+kind_wanted false body = is_index_kind body
+
+-- the kind, if it is known and wanted
+abbrev pub ReadsKindOf : Bool → List ℕ → Option IndexKind → Type 0
+ReadsKindOf only body None = kind_wanted only body ≡ false
+ReadsKindOf only body (Some k) = OfKind body k × (kind_wanted only body ≡ true)
+
 -- the numbers of a head of a kind
 pub record IsFront (body : List ℕ) (k : IndexKind) (h : IndexHead) : Type 0 where
   pub longs_are : h.longs ≡ longs k
@@ -70,7 +80,11 @@ pub record IsHead (body : List ℕ) (h : IndexHead) : Type 0 where
 abbrev pub head_tests : (List ℕ → Bool) → List ℕ → List (Bool × HeadFault)
 head_tests of_kind body = (not (has_header body), Short) ∷ ((not (of_kind body), Wrong) ∷ ((not (has_entries body), Short) ∷ []))
 
--- the head, or the first test that holds
+-- the head of an index that is of a kind, or the first test that holds
+abbrev pub ReadsHeadOf : (List ℕ → Bool) → List ℕ → Result IndexHead HeadFault → Type 0
+ReadsHeadOf of_kind body (Ok h) = (first (head_tests of_kind body) ≡ None) × IsHead body h
+ReadsHeadOf of_kind body (Err fault) = first (head_tests of_kind body) ≡ Some fault
+
+-- the same of any index
 abbrev pub ReadsHead : List ℕ → Result IndexHead HeadFault → Type 0
-ReadsHead body (Ok h) = (first (head_tests is_index_kind body) ≡ None) × IsHead body h
-ReadsHead body (Err fault) = first (head_tests is_index_kind body) ≡ Some fault
+ReadsHead body r = ReadsHeadOf is_index_kind body r

@@ -179,6 +179,7 @@ fn check_entries<D: Depot>(
     requires small { table.end < 2 ^ 63 }
     requires rows { table.at + width_by table.two_fields * table.used ≡ table.end }
     ensures entries { (b : List ℕ) → Holds (D.disk depot.old) b → AllByRecursion (EndInside (2 ^ 64)) movis.now → JudgesEntries movis.now indexes.now table.base (rows (width_by table.two_fields) table.used (drop table.at b)) result }
+    ensures few { IfOk result (λ n. n ≤ table.used) }
     ensures reads { ReadsOnly (D.disk depot.old) (D.disk depot.new) }
     ensures cause { result ≡ Err IndexFault.Depot → Rose (D.disk depot.old).faults (D.disk depot.new).faults }
 {
@@ -219,6 +220,7 @@ pub fn check_standard<D: Depot>(
     requires told { (b : List ℕ) → Holds (D.disk depot.old) b → IsChunk b at }
     requires movis { (b : List ℕ) → Holds (D.disk depot.old) b → AllByRecursion (EndInside (length b)) movis.now }
     ensures entries { (b : List ℕ) → Holds (D.disk depot.old) b → JudgesEntries movis.now indexes.now (index_base (named b at).body) (entries (named b at).body) result }
+    ensures few { IfOk result (λ n. n < 2 ^ 32) }
     ensures reads { ReadsOnly (D.disk depot.old) (D.disk depot.new) }
     ensures cause { result ≡ Err IndexFault.Depot → Rose (D.disk depot.old).faults (D.disk depot.new).faults }
 {

@@ -1,6 +1,6 @@
 // The head of an index chunk: the 24 bytes before its entries.
-ghost use Rattle.std.specs.Prelude.{◌≡◌};
-ghost use Rattle.opendml_index.specs.Heads.{IsFront, ReadsHead, ReadsKind, longs, standard, two_fields};
+ghost use Rattle.std.specs.Prelude.{◌≡◌, ◌≤◌, ℕ, List, length, take};
+ghost use Rattle.opendml_index.specs.Heads.{IsFront, ReadsHead, ReadsHeadOf, ReadsKind, ReadsKindOf, kind_wanted, longs, standard, two_fields};
 
 use crate::numbers::{four_in, le32_in, le64_in};
 use part_tree::{FourCc, IndexHead};
@@ -84,6 +84,37 @@ pub fn head_of(first: &[u8; 24], kind: IndexKind) -> IndexHead
     }
 }
 
+// The kind, where any index or a standard one is looked for.
+fn kind_of(first: &[u8; 24], standard: bool) -> Option<IndexKind>
+    ensures { ReadsKindOf standard first.now result }
+{
+    match kind_in(first) {
+        None => None,
+        Some(kind) => {
+            if standard && !is_standard(kind) {
+                return None;
+            }
+            Some(kind)
+        }
+    }
+}
+
+/// The head of an index chunk, by the first 24 bytes of its body and the body's length in bytes, where any index or a standard
+/// one is looked for. `Wrong` is tested first, and then whether the entries are there.
+pub fn head_in(first: &[u8; 24], len: u64, standard: bool) -> Result<IndexHead, HeadFault>
+    requires { 24 ≤ len }
+    ensures { (body : List ℕ) → first.now ≡ take 24 body → len ≡ length body → ReadsHeadOf (kind_wanted standard) body result }
+{
+    let Some(kind) = kind_of(first, standard) else {
+        return Err(HeadFault::Wrong);
+    };
+    let head = head_of(first, kind);
+    if len - 24 < 4 * u64::from(head.longs) * u64::from(head.used) {
+        return Err(HeadFault::Short);
+    }
+    Ok(head)
+}
+
 /// The head of an index chunk, by its body. `Wrong` is tested once 24 bytes are there, and then whether the entries are.
 pub fn read_head(body: &[u8]) -> Result<IndexHead, HeadFault>
     ensures { ReadsHead body.now result }
@@ -93,12 +124,5 @@ pub fn read_head(body: &[u8]) -> Result<IndexHead, HeadFault>
     }
     let mut first = [0u8; 24];
     first.copy_from_slice(&body[..24]);
-    let Some(kind) = kind_in(&first) else {
-        return Err(HeadFault::Wrong);
-    };
-    let head = head_of(&first, kind);
-    if ((body.len() - 24) as u64) < 4 * u64::from(head.longs) * u64::from(head.used) {
-        return Err(HeadFault::Short);
-    }
-    Ok(head)
+    head_in(&first, body.len() as u64, false)
 }

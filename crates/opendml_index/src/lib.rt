@@ -12,4 +12,4 @@ mod tests;
 
 pub use check::check_standard;
 pub use entry::{StdEntry, SuperEntry, read_standard, read_super};
-pub use head::{HeadFault, read_head};
+pub use head::{HeadFault, head_in, read_head};

@@ -22,7 +22,7 @@ use Rattle.rf64_ds64.specs.declared.Ds64.{Ds64}
 use Rattle.wave_file.specs.declared.chunk.Reading.{Reading}
 use Rattle.wave_file.specs.declared.sizing.Sizing.{Sizing}
 use Rattle.wave_file.specs.Map.{HasSizes, part_at, part_as, sizes_at, sound_at, all_parts, all_sounds}
-use Rattle.wave_file.specs.Lawful.{HasRanges}
+use Rattle.wave_file.specs.Lawful.{HasNoKeys, HasRanges}
 use Rattle.wave_file.specs.Reads.{IsForm, IsFresh, IsLeft, IsPartial, Begins, seen_of}
 use Rattle.wave_file.specs.Sized.{StuckAt, all_taken, run_at, sizes_in, state_of}
 use Rattle.wave_file.proofs.Left.{left_stuck}
@@ -148,12 +148,16 @@ begins_first b end to c next r s z d form fresh some step place = left_first b (
 fresh_ranges : (r : Reading) (z : Sizing) → IsFresh r z → HasRanges r.has_bext r.fields
 fresh_ranges r z fresh = subst (λ (t : Bool). HasRanges t r.fields) (sym fresh.has_bext) (subst (λ (es : List Entry). HasRanges false es) (sym fresh.none) (λ f. refl))
 
+fresh_keys : (r : Reading) (z : Sizing) → IsFresh r z → HasNoKeys r.fields
+fresh_keys r z fresh = subst HasNoKeys (sym fresh.none) (λ name. refl)
+
 pub fresh_partial : (r : Reading) (z : Sizing) → IsFresh r z → IsPartial r 12
 fresh_partial r z fresh = record {
   few = omega (arith, fresh.count);
   ascends = subst (λ (ps : List Part). Rattle.wave_file.specs.Map.Ascend 12 ps 12) (sym fresh.parts) (omega arith);
   sound = subst (λ (o : Option Span). Rattle.wave_file.specs.Reads.Ends 12 o) (sym fresh.sound) tt;
   ranges = fresh_ranges r z fresh;
+  keys = fresh_keys r z fresh;
 }
 
 pub first_partial : (r s : Reading) (z : Sizing) (p : Part) (to : ℕ) → IsFresh r z → s.count ≡ 1 → s.parts.items ≡ r.parts.items ++ p ∷ [] → s.fields ≡ r.fields → s.sound ≡ r.sound → s.has_bext ≡ r.has_bext
@@ -163,4 +167,5 @@ first_partial r s z p to fresh count parts same sound bext a e f g = record {
   ascends = subst (λ (ps : List Part). Rattle.wave_file.specs.Map.Ascend 12 ps to) (sym (parts ∙ ap (λ (x : List Part). x ++ p ∷ []) fresh.parts)) (a, e, f, g);
   sound = subst (λ (o : Option Span). Rattle.wave_file.specs.Reads.Ends to o) (sym (sound ∙ fresh.sound)) tt;
   ranges = subst (λ (t : Bool). HasRanges t s.fields) (sym bext) (subst (λ (es : List Entry). HasRanges r.has_bext es) (sym same) (fresh_ranges r z fresh));
+  keys = subst HasNoKeys (sym same) (fresh_keys r z fresh);
 }

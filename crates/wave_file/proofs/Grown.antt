@@ -1,6 +1,6 @@
 -- The values of a map, one chunk more.
-use Rattle.std.proofs.Common.{◌≡◌, ◌∙◌, ℕ, ◌+◌, ◌<◌, ◌≤◌, Bool, true, false, eqb, ltb, List, [], ◌∷◌, ◌++◌, length, map, drop, get_or, refl, sym, ap, subst, arith, append_assoc, inl, inr, length-take, length-drop}
-use Rattle.std.specs.Prelude.{if◌then◌else◌, ◌&&◌, ◌==◌, nat_lt, ◌⊎◌}
+use Rattle.std.proofs.Common.{◌≡◌, ◌∙◌, ℕ, ◌+◌, ◌<◌, ◌≤◌, Bool, true, false, eqb, ltb, List, [], ◌∷◌, ◌++◌, length, map, drop, get_or, refl, sym, ap, subst, arith, append_assoc}
+use Rattle.std.specs.Prelude.{if◌then◌else◌, ◌&&◌, ◌==◌, nat_lt}
 use Rattle.std.specs.Str.{bytes_eq}
 use Rattle.std.proofs.lemmas.Bool.{lt-ltb, le-ltb, eqb-true, eqb-false, cases_lt}
 use Rattle.std.proofs.lemmas.List.{append-nil, map-append, at_drop_more, at_drop_all}
@@ -11,14 +11,13 @@ use Rattle.carrier_model.specs.Info.{own_size, one_of, info_items, list_run}
 use Rattle.part_tree.specs.declared.names.FourCc.{FourCc}
 use Rattle.part_tree.specs.declared.field.BextField.{BextField}
 use Rattle.part_tree.specs.declared.field.FieldName.{FieldName}
-use Rattle.part_tree.specs.declared.field.FieldName.TheVariants.{Bext, Info, Whole, User, Key, Stream}
+use Rattle.part_tree.specs.declared.field.FieldName.TheVariants.{Bext, Info, Whole, Key}
 use Rattle.part_tree.specs.declared.field.Value.{Value}
 use Rattle.part_tree.specs.declared.fields.Entry.{Entry}
 use Rattle.part_tree.specs.Fields.{values, Adds}
 use Rattle.part_tree.specs.Names.{same_name, whole_ids, info_ids, bext_row}
 use Rattle.part_tree.proofs.Places.{same_is_equal, bytes_same, row_small}
-use Rattle.field_model.specs.Bext.{range_of, range_at, range_len}
-use Rattle.field_model.specs.Body.{FillsRange}
+use Rattle.field_model.specs.Bext.{range_of}
 use Rattle.field_model.specs.Fields.{FieldMap, plain}
 use Rattle.field_model.proofs.Fills.{range_fills}
 use Rattle.info_list.specs.declared.InfoItem.{InfoItem}
@@ -27,7 +26,7 @@ use Rattle.wave_model.specs.Fields.{is_bext, is_info, is_whole, fields_of}
 use Rattle.wave_model.proofs.Values.{eq_sym}
 use Rattle.wave_file.specs.Lawful.{HasNoBext, HasBext}
 use Rattle.wave_file.specs.Map.{is_field}
-use Rattle.wave_file.specs.Reads.{Grows, ranges_below, item_value, item_values, items_held}
+use Rattle.wave_file.specs.Reads.{Grows, KeepsKeys, ranges_below, item_value, item_values, items_held}
 
 -- ---- one value more
 
@@ -88,6 +87,9 @@ none_below old body = not_grown old (ranges_below 0 body) none
 
 all_below : (field : BextField) (body : List ℕ) → ranges_below 15 body (Bext field) ≡ plain (range_of (bext_row field) body) ∷ []
 all_below field body = ap (λ (t : Bool). if t then plain (range_of (bext_row field) body) ∷ [] else []) (lt-ltb (bext_row field) 15 (row_small field))
+
+pub bext_keeps_keys : (old new : List Entry) (body : List ℕ) → Grows old new (ranges_below 15 body) → KeepsKeys old new
+bext_keeps_keys old new body grown key = grown (Key key) ∙ append-nil (values old (Key key))
 
 pub has_bext : (old new : List Entry) (body : List ℕ) → 602 ≤ length body → Grows old new (ranges_below 15 body) → HasNoBext old → HasBext new
 has_bext old new body long grown none field = (

@@ -1,12 +1,13 @@
 -- What is left of the chunks.
-use Rattle.std.proofs.Common.{◌≡◌, ◌∙◌, ℕ, ◌+◌, Bool, true, false, List, [], ◌∷◌, ◌++◌, length, map, refl, sym, ap, append_assoc, inl, inr}
+use Rattle.std.proofs.Common.{◌≡◌, ◌∙◌, ℕ, ◌+◌, Bool, true, false, List, [], ◌∷◌, ◌++◌, length, map, refl, sym, ap, append_assoc, inl, inr, subst}
 use Rattle.std.specs.Prelude.{Option, Some, None}
+use Rattle.std.specs.List.{AllByRecursion}
 use Rattle.std.specs.declared.result.Result.TheVariants.{Err}
 use Rattle.std.proofs.lemmas.List.{append-nil, map-append}
 use Rattle.part_tree.specs.declared.part.Part.{Part}
 use Rattle.part_tree.specs.declared.names.Span.{Span}
 use Rattle.part_tree.specs.declared.field.FieldName.{FieldName}
-use Rattle.part_tree.specs.declared.field.FieldName.TheVariants.{Bext, Info, Whole, User, Key, Stream}
+use Rattle.part_tree.specs.declared.field.FieldName.TheVariants.{Bext, Info, Whole}
 use Rattle.part_tree.specs.declared.field.Value.{Value}
 use Rattle.part_tree.specs.declared.fields.Entry.{Entry}
 use Rattle.part_tree.specs.declared.why.Why.{Why}
@@ -31,8 +32,8 @@ use Rattle.wave_file.specs.declared.form.AllRead.{AllRead}
 use Rattle.wave_file.specs.Map.{part_at, sound_at}
 use Rattle.wave_file.specs.Reads.{IsLeft, Took, Takes, seen_of}
 use Rattle.wave_file.specs.declared.sizing.Sizing.{Sizing}
-use Rattle.field_model.specs.Lawful.{IsLawful}
-use Rattle.wave_file.specs.Lawful.{HasRanges}
+use Rattle.field_model.specs.Lawful.{BextIsWhole, HasKeyHead, IsLawful}
+use Rattle.wave_file.specs.Lawful.{HasNoKeys, HasRanges}
 use Rattle.wave_file.specs.Sized.{IsStuck, StuckAt, run_at, state_of}
 use Rattle.wave_file.specs.Form.{IsRead, ReadsChunks}
 
@@ -133,6 +134,9 @@ chunks_stuck b at end z r (Fault.Why w) left stuck = left_stuck b (run_at (state
 chunks_stuck b at end z r Fault.Depot left stuck = tt
 chunks_stuck b at end z r Fault.Memory left stuck = tt
 
-pub lawful : (has : Bool) (es : List Entry) → HasRanges has es → IsLawful (values es)
-lawful true es h = inl h
-lawful false es h = inr h
+whole : (has : Bool) (es : List Entry) → HasRanges has es → BextIsWhole (values es)
+whole true es h = inl h
+whole false es h = inr h
+
+pub lawful : (has : Bool) (es : List Entry) → HasRanges has es → HasNoKeys es → IsLawful (values es)
+lawful has es h none = record { bext = whole has es h; keys = λ name. subst (AllByRecursion HasKeyHead) (sym (none name)) tt }

@@ -26,7 +26,7 @@ use Rattle.wave_model.specs.Edited.{block_size, formats, parts_of}
 use Rattle.wave_model.specs.Why.{Seen, is_fmt, kind_tests, ds64_why, form_tests, chunk_tests, see, children_why, last_why, chunks_why}
 use Rattle.container_model.specs.Tests.{first}
 use Rattle.rf64_ds64.specs.declared.Ds64.{Ds64}
-use Rattle.wave_file.specs.Lawful.{HasNoBext, HasBext, HasRanges}
+use Rattle.wave_file.specs.Lawful.{HasNoBext, HasBext, HasNoKeys, HasRanges}
 use Rattle.wave_file.specs.Map.{part_at, sound_at, all_parts, all_sounds, Ascend, HasSizes}
 use Rattle.wave_file.specs.Sized.{sizes_in, run_at, state_of}
 use Rattle.wave_file.specs.declared.sizing.Sizing.{Sizing}
@@ -100,6 +100,10 @@ abbrev pub KeepsRanges : Role → List Entry → List Entry → Type 0
 KeepsRanges Bext old new = HasNoBext old → HasBext new
 KeepsRanges _ old new = (field : BextField) → values new (name.Bext field) ≡ values old (name.Bext field)
 
+-- the values of each key stay
+abbrev pub KeepsKeys : List Entry → List Entry → Type 0
+KeepsKeys old new = (key : List ℕ) → values new (name.Key key) ≡ values old (name.Key key)
+
 -- ---- one chunk more
 
 abbrev pub one_if : Bool → ℕ
@@ -145,6 +149,7 @@ pub record IsPartial (r : Reading) (at : ℕ) : Type 0 where
   pub ascends : Ascend 12 r.parts.items at
   pub sound : Ends at r.sound
   pub ranges : HasRanges r.has_bext r.fields
+  pub keys : HasNoKeys r.fields
 
 -- ---- all chunks
 

@@ -13,7 +13,7 @@ ghost use Rattle.wave_model.specs.Fields.{is_info};
 ghost use Rattle.riff_form.specs.Walk.{chunk_in};
 ghost use Rattle.wave_model.specs.Wave.{form_kind};
 ghost use Rattle.wave_file.specs.Map.{role_of};
-ghost use Rattle.wave_file.specs.Reads.{Grows, IsNoWhy, KeepsRanges, ReadsFields, items_held, ranges_below};
+ghost use Rattle.wave_file.specs.Reads.{Grows, IsNoWhy, KeepsKeys, KeepsRanges, ReadsFields, items_held, ranges_below};
 
 use crate::range::{RangeFault, read_range};
 use bext_fields::{BEXT, BextField, get_raw, rows_are_the_ranges};
@@ -94,6 +94,7 @@ fn read_items<D: Depot>(
     requires few { parts < 65536 }
     ensures items { (b : List ℕ) → Holds (D.disk depot.old) b → is_info (chunk_in b riff chunk.now) ≡ true → ReadsFields (chunk_in b riff chunk.now) chunk.now.at parts fields.old fields.new result }
     ensures ranges { OnOk result (KeepsRanges Role.Info fields.old fields.new) }
+    ensures keys { OnOk result (KeepsKeys fields.old fields.new) }
     ensures few { IfOk result (λ n. (0 < n) × (parts + n ≤ 65536)) }
     ensures reads { ReadsOnly (D.disk depot.old) (D.disk depot.new) }
     ensures cause { result ≡ Err ReadFault.Depot → Rose (D.disk depot.old).faults (D.disk depot.new).faults }
@@ -139,6 +140,7 @@ fn read_whole<D: Depot>(
     requires name { one_of whole_ids chunk.now.id.0 ≡ true }
     ensures value { (b : List ℕ) → Holds (D.disk depot.old) b → OnOk result (Adds fields.old fields.new (FieldName.Whole chunk.now.id) (plain (slice b chunk.now.body.at chunk.now.body.len))) }
     ensures ranges { OnOk result (KeepsRanges Role.Whole fields.old fields.new) }
+    ensures keys { OnOk result (KeepsKeys fields.old fields.new) }
     ensures why { IfErr result (λ fault. IsNoWhy fault) }
     ensures reads { ReadsOnly (D.disk depot.old) (D.disk depot.new) }
     ensures cause { result ≡ Err ReadFault.Depot → Rose (D.disk depot.old).faults (D.disk depot.new).faults }
@@ -166,6 +168,7 @@ fn read_bext<D: Depot>(
     requires long { 602 ≤ chunk.now.body.len }
     ensures values { (b : List ℕ) → Holds (D.disk depot.old) b → OnOk result (Grows fields.old fields.new (ranges_below 15 (slice b chunk.now.body.at chunk.now.body.len))) }
     ensures ranges { OnOk result (KeepsRanges Role.Bext fields.old fields.new) }
+    ensures keys { OnOk result (KeepsKeys fields.old fields.new) }
     ensures why { IfErr result (λ fault. IsNoWhy fault) }
     ensures reads { ReadsOnly (D.disk depot.old) (D.disk depot.new) }
     ensures cause { result ≡ Err ReadFault.Depot → Rose (D.disk depot.old).faults (D.disk depot.new).faults }
@@ -198,6 +201,7 @@ pub fn read_fields<D: Depot>(
     requires few { parts < 65536 }
     ensures fields { (b : List ℕ) → Holds (D.disk depot.old) b → (wide : Bool) → role ≡ role_of (chunk_in b (form_kind wide) chunk.now) → ReadsFields (chunk_in b (form_kind wide) chunk.now) chunk.now.at parts fields.old fields.new result }
     ensures ranges { OnOk result (KeepsRanges role fields.old fields.new) }
+    ensures keys { OnOk result (KeepsKeys fields.old fields.new) }
     ensures few { IfOk result (λ n. (0 < n) × (parts + n ≤ 65536)) }
     ensures reads { ReadsOnly (D.disk depot.old) (D.disk depot.new) }
     ensures cause { result ≡ Err ReadFault.Depot → Rose (D.disk depot.old).faults (D.disk depot.new).faults }

@@ -30,7 +30,7 @@ pub idle_small : (o : List ℕ) (e : List EditItem) → effective (fields o) e �
 idle_small o e none = ap (λ (is : List EditItem). large_by is (wave_of o) (raw_items (fields o) e)) none
 
 pub fields_lawful : (o : List ℕ) → Supported o → IsLawful (fields o)
-fields_lawful o sup = ranges_lawful (fields o) (bodies is_bext (wave_of o).children) (λ field. refl) sup.children.one_bext sup.children.long_bext
+fields_lawful o sup = ranges_lawful (fields o) (bodies is_bext (wave_of o).children) (λ field. refl) sup.children.one_bext sup.children.long_bext (λ name. refl)
 
 -- the patches of an edit that isn't too large make the new file, where it has room
 pub narrow_in_place : (o : List ℕ) (e : List EditItem) → IsBytes o → Supported o → too_large o e ≡ None → has_room (wave_of o) (raw_items (fields o) e) ≡ true → MakeInPlace o (new_file o e) (patches o e)

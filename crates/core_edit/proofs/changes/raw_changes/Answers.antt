@@ -2,7 +2,7 @@ use Rattle.std.proofs.Common.{◌∙◌, ap, refl}
 use Rattle.std.specs.List.{filter_map}
 use Rattle.std.proofs.lemmas.List.Elements.{filter_map-append}
 use Rattle.field_model.specs.Update.{raw_item}
-use Rattle.core_edit.proofs.RawItems.{next_put, all_put, are_of_fields, fit_bext}
+use Rattle.core_edit.proofs.RawItems.{next_put, all_put, are_of_fields, fit_bext, fit_keys}
 use Rattle.core_edit.proofs.changes.raw_changes.Goals as goal
 
 pub loop-item-preserved : goal.loop-item-preserved
@@ -18,4 +18,9 @@ returns-clause-names c =
 pub returns-clause-fit : goal.returns-clause-fit
 returns-clause-fit c =
     fit_bext _ c.args.edit.now c.items-items.ensures.sound
+    (all_put (filter_map raw_item) refl c.items-items.result.now c.loop-item.item-index _ _ c.loop-item-test.false c.loop-item.invariant ∙ ap (filter_map raw_item) c.items-items.ensures.items)
+
+pub returns-clause-keys : goal.returns-clause-keys
+returns-clause-keys c =
+    fit_keys _ c.args.edit.now c.items-items.ensures.sound
     (all_put (filter_map raw_item) refl c.items-items.result.now c.loop-item.item-index _ _ c.loop-item-test.false c.loop-item.invariant ∙ ap (filter_map raw_item) c.items-items.ensures.items)

@@ -8,7 +8,7 @@ use Rattle.core_edit.proofs.value_text.version.Goals as goal
 pub number_2-requires : goal.number_2-requires
 number_2-requires c =
     let some : 0 < length c.get-held.result.now = omega arith in
-    ap (λ (xs : List ℕ). length xs) c.as_slice.ensures ∙ first_two (values c.args.fields.now) c.get-held.result.now _ c.requires c.get-held.ensures some
+    ap (λ (xs : List ℕ). length xs) c.as_slice.ensures ∙ first_two (values c.args.fields.now) c.get-held.result.now _ c.requires.bext c.get-held.ensures some
 
 pub returns : goal.returns
 returns c =

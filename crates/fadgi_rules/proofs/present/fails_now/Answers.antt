@@ -31,4 +31,4 @@ returns-in-History c =
 
 pub returns-in-Range : goal.returns-in-Range
 returns-in-Range c =
-    c.range_is_negative.ensures ∙ negative_now c.args.rule (values c.args.fields.now) c.args.name.now c.requires.lawful c.in-Range.is c.requires.looks
+    c.range_is_negative.ensures ∙ negative_now c.args.rule (values c.args.fields.now) c.args.name.now c.requires.lawful.bext c.in-Range.is c.requires.looks

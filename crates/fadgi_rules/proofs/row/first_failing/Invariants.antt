@@ -3,7 +3,7 @@ use Rattle.std.specs.Prelude.{filter}
 use Rattle.part_tree.specs.Fields.{values}
 use Rattle.field_model.specs.Update.{update}
 use Rattle.fadgi_rules.specs.Looked.{names_of}
-use Rattle.fadgi_rules.specs.Rows.{fails, fields_of, first_in}
+use Rattle.fadgi_rules.specs.Rows.{fails, first_in}
 use Rattle.fadgi_rules.proofs.row.first_failing.Given as goal
 
 -- the names from here on decide

@@ -4,7 +4,7 @@ use Rattle.part_tree.specs.Fields.{values}
 use Rattle.field_model.specs.Update.{update}
 use Rattle.fadgi_rules.specs.Items.{found}
 use Rattle.fadgi_rules.specs.Looked.{names_of}
-use Rattle.fadgi_rules.specs.Rows.{number, fails, fields_of}
+use Rattle.fadgi_rules.specs.Rows.{number, fails}
 use Rattle.fadgi_rules.proofs.row.push_row.Given as goal
 
 -- what was found, and then what the names from here on give

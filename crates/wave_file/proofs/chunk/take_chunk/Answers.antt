@@ -102,4 +102,5 @@ returns-in-Ok-push-clause-partial g c =
       ascends = rw c.in-Ok-push.ensures.items (ascend_more 12 k.at k.next r.parts.items _ c.requires.partial.ascends (omega arith) c.requires.order.body c.requires.order.whole (omega arith));
       sound = ends_on (k.body.at + k.body.len) k.next c.in-Ok-read_essence.essence.sound c.requires.order.whole (c.in-Ok-read_essence.ensures.ends c.requires.partial.sound);
       ranges = rw c.is_bext.ensures (ranges_on c.in-Ok.role r.has_bext r.fields c.read_fields.new.fields early_facts.one_bext c.requires.partial.ranges c.in-Ok-read_fields.ensures.ranges);
+      keys = λ key. c.in-Ok-read_fields.ensures.keys key ∙ c.requires.partial.keys key;
     }

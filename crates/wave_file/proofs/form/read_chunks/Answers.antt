@@ -85,5 +85,5 @@ returns-clause-sound g c =
     record {
       ascends = ascend_to 12 c.chunks.walker.at c.args.end c.chunks.reading.parts.items (omega arith) before.partial.ascends;
       sound = omega (arith, ends);
-      lawful = lawful c.chunks.reading.has_bext c.chunks.reading.fields before.partial.ranges;
+      lawful = lawful c.chunks.reading.has_bext c.chunks.reading.fields before.partial.ranges before.partial.keys;
     }

@@ -3,6 +3,8 @@ use Rattle.std.specs.Prelude.{IsTrue}
 use Rattle.file_swap.specs.Steps.{Step}
 use Rattle.file_swap.specs.declared.machine.Turn.TheVariants.{More}
 use Rattle.file_swap.proofs.Cores.{core_permits, core_leaves, core_failed, core_wrote, core_low, core_sound, core_counts, core_open, core_underway}
+use Rattle.file_swap.specs.Machines.{swap_of}
+use Rattle.file_swap.proofs.Tallies.{turn_counts}
 use Rattle.file_swap.proofs.machine.Core.turn.Goals as goal
 
 still : {l : List Step} → (l ≡ [] → IsTrue false) → l ≡ [] → ⊥
@@ -56,3 +58,12 @@ returns-in-Err-clause-written g c = core_failed c.args.self.now c.requires.1.0 (
 
 pub returns-in-Err-clause-idle : goal.returns-in-Err-clause-idle
 returns-in-Err-clause-idle g c = λ all. let low = core_low c.args.self.now c.requires.1.0 (still c.if-is_ended.ensures.1) g.old (g.D.Depot.disk c.args.depot.now) (g.D.Depot.disk c.step.new.depot) (g.met.D.Depot.lawful c.args.depot.now) (g.met.D.Depot.lawful c.step.new.depot) c.requires.1.1 in absurd (omega (arith, low, all))
+
+pub returns-then-is_ended-2-clause-counted : goal.returns-then-is_ended-2-clause-counted
+returns-then-is_ended-2-clause-counted g c = let low = core_low c.args.self.now c.requires.1.0 (still c.if-is_ended.ensures.1) g.old (g.D.Depot.disk c.args.depot.now) (g.D.Depot.disk c.step.new.depot) (g.met.D.Depot.lawful c.args.depot.now) (g.met.D.Depot.lawful c.step.new.depot) c.requires.1.1 in turn_counts (swap_of c.args.self.now) _ _ low c.step.ensures.counted
+
+pub returns-else-is_ended-2-clause-counted : goal.returns-else-is_ended-2-clause-counted
+returns-else-is_ended-2-clause-counted g c = let low = core_low c.args.self.now c.requires.1.0 (still c.if-is_ended.ensures.1) g.old (g.D.Depot.disk c.args.depot.now) (g.D.Depot.disk c.step.new.depot) (g.met.D.Depot.lawful c.args.depot.now) (g.met.D.Depot.lawful c.step.new.depot) c.requires.1.1 in turn_counts (swap_of c.args.self.now) _ _ low c.step.ensures.counted
+
+pub returns-in-Err-clause-counted : goal.returns-in-Err-clause-counted
+returns-in-Err-clause-counted g c = let low = core_low c.args.self.now c.requires.1.0 (still c.if-is_ended.ensures.1) g.old (g.D.Depot.disk c.args.depot.now) (g.D.Depot.disk c.step.new.depot) (g.met.D.Depot.lawful c.args.depot.now) (g.met.D.Depot.lawful c.step.new.depot) c.requires.1.1 in turn_counts (swap_of c.args.self.now) _ _ low c.step.ensures.counted

@@ -28,4 +28,4 @@ returns-in-AppendRows-clause-does g c =
     let bytes : relocated s.moves c.table-form.result.form c.page_len-rows.result (take (width c.table-form.result.form * c.page_len-rows.result) c.deref-in-AppendRows.result.now) ≡ changed (change_of s i first) (held_in s (AppendRows i first) buffer)
     = λ j. relocated s.moves (table j).form (rows j) (take (width (table j).form * rows j) (held j)) in
     subst (λ (t : Stage). StepDoes (step_of s t) (held_in s t buffer) old new c.append_rows.result) (sym c.in-AppendRows.is)
-    (subst (λ (b : List ℕ). Does (AppendWork b) old new c.append_rows.result) bytes c.append_rows.ensures)
+    (subst (λ (b : List ℕ). Does (AppendWork b) old new c.append_rows.result) bytes c.append_rows.ensures.does)

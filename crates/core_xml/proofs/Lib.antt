@@ -1,0 +1,12 @@
+pub mod Alike
+pub mod Exported
+pub mod Forms
+pub mod Fresh
+pub mod Labels
+pub mod Law
+pub mod Marks
+pub mod Sound
+pub mod Split
+pub mod Steps
+pub mod Undone
+pub mod Writing

@@ -1,0 +1,4 @@
+pub mod Lines
+pub mod Markup
+pub mod Table
+pub mod Written
