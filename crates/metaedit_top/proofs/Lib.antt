@@ -6,3 +6,4 @@ pub mod Tops
 pub mod Changes
 pub mod Sets
 pub mod Looks
+pub mod FileWord

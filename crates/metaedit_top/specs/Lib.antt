@@ -5,3 +5,4 @@ pub mod Run
 pub mod Stage
 pub mod Text
 pub mod Changed
+pub mod Started

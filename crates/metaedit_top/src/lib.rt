@@ -8,6 +8,7 @@ mod change;
 mod outcome;
 mod run;
 mod set;
+mod started;
 mod stops;
 mod tell;
 #[cfg(test)]
@@ -20,6 +21,7 @@ mod words;
 pub use me_report::Summary;
 pub use outcome::{Outcome, UsageFault};
 pub use part_tree::Why;
+pub use started::{StartFault, file_of, finish, start_code, words_of};
 pub use text::{code, line_of};
 pub use top::metaedit;
 pub use word::Word;
