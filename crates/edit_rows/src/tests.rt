@@ -473,7 +473,7 @@ fn a_wave_file_that_passes_four_gigabytes_becomes_rf64(rt: HostRuntime) -> Resul
         ..REWRITTEN
     };
     assert!(rt; ran.outcome == Outcome::Done(summary));
-    assert!(rt; ran.out.written() == b"done changed rewritten essence 4294967244\n".as_slice());
+    assert!(rt; ran.out.written() == b"done changed rewrite essence 4294967244\n".as_slice());
     assert!(rt; has_len(&mut depot, 4_294_967_348));
     assert!(rt; shows(&mut depot, 0, FULL_WIDENED));
     assert!(rt; shows(&mut depot, 48, WIDE_SOUND));
