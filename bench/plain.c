@@ -1,7 +1,10 @@
-/* The plainest programs that do what `metaedit` does, for bench/speed.sh, and a clock that runs a command.
+/* The plainest programs that do what `metaedit` does, for bench/speed.sh and bench/rows.sh, and a clock that runs a command.
      plain journal FILE AT TEXT      writes TEXT over FILE at AT: a journal file, fsync, rename, fsync of the folder, the write,
                                      fsync, unlink
      plain durable FILE AT TEXT      the same, and a last fsync of the folder, as the editor does it: the journal stays away
+     plain table FILE FORM ROWS FIRST    writes a table of so many rows, whose places are FIRST, FIRST + 1000 and so on: `chunks`, as in
+                                     a `stco` (4 bytes, the most significant first), or `index`, as in an `idx1` (16 bytes: the
+                                     word `00dc`, the flags 16, the place, the length 1000, each the least significant first)
      plain copy FILE NEW             copies FILE in blocks of 64 KiB, fsync, rename to NEW, fsync of the folder
      plain run COMMAND..             runs the command; its seconds, the most memory it used in KiB, and its status to error
    It reads no format and checks nothing; FILE lies in the working folder. */
@@ -73,6 +76,29 @@ static void copy(const char *name, const char *new_name) {
     close(from);
 }
 
+static void put_number(unsigned char *to, uint32_t number, int most_first) {
+    for (int k = 0; k < 4; k++)
+        to[most_first ? 3 - k : k] = number >> 8 * k;
+}
+
+static void table(const char *name, int is_index, uint64_t rows, uint32_t first) {
+    FILE *file = fopen(name, "wb");
+    must(file != NULL, name);
+    for (uint64_t k = 0; k < rows; k++) {
+        unsigned char row[16] = "00dc";
+        uint32_t place = first + 1000 * k;
+        if (is_index) {
+            put_number(row + 4, 16, 0);
+            put_number(row + 8, place, 0);
+            put_number(row + 12, 1000, 0);
+        } else {
+            put_number(row, place, 1);
+        }
+        must(fwrite(row, is_index ? 16 : 4, 1, file) == 1, "write");
+    }
+    must(fclose(file) == 0, "close");
+}
+
 static int run(char **words) {
     struct timespec begin, end;
     struct rusage used;
@@ -97,6 +123,8 @@ int main(int count, char **words) {
         journal(words[2], strtoull(words[3], NULL, 10), words[4], 0);
     else if (count == 5 && strcmp(words[1], "durable") == 0)
         journal(words[2], strtoull(words[3], NULL, 10), words[4], 1);
+    else if (count == 6 && strcmp(words[1], "table") == 0)
+        table(words[2], strcmp(words[3], "index") == 0, strtoull(words[4], NULL, 10), strtoul(words[5], NULL, 10));
     else if (count == 4 && strcmp(words[1], "copy") == 0)
         copy(words[2], words[3]);
     else if (count > 2 && strcmp(words[1], "run") == 0)

@@ -1,10 +1,9 @@
 -- The new movie is read as it was made.
-use Rattle.std.proofs.Common.{Bool, List, [], ap, arith, cond, drop, false, leb, length, ltb, map, refl, replicate, subst, sym, true, ℕ, ◌++◌, ◌+◌, ◌-◌, ◌<◌, ◌^◌, ◌∙◌, ◌∷◌, ◌≡◌, ◌≤◌}
-use Rattle.std.specs.Prelude.{codes, ◌&&◌, ◌||◌}
+use Rattle.std.proofs.Common.{Bool, List, None, Option, Some, [], ap, arith, cond, drop, false, leb, length, ltb, map, refl, replicate, subst, sym, true, ℕ, ◌++◌, ◌+◌, ◌-◌, ◌<◌, ◌^◌, ◌∙◌, ◌∷◌, ◌≡◌}
+use Rattle.std.specs.Prelude.{IfSome, codes, ◌&&◌, ◌||◌}
 use Rattle.std.proofs.lemmas.Bool.{and_parts, cond-true, ltb-true}
 use Rattle.std.proofs.lemmas.List.{length-append, length-drop, nil_from_length}
-use Rattle.std.specs.List.{AllByRecursion, flat_map}
-use Rattle.part_tree.specs.declared.field.Value.{Value}
+use Rattle.std.specs.List.{AllByRecursion}
 use Rattle.container_model.proofs.Atoms.{atoms_give_back}
 use Rattle.container_model.proofs.Codec.{IsBytes, as_many, chunks_joined, chunks_read, chunks_spelled}
 use Rattle.container_model.proofs.Deep.{Alike, bytes_of}
@@ -16,19 +15,23 @@ use Rattle.container_model.specs.Deep.{Whole}
 use Rattle.container_model.specs.Items.{Item, edit_carrier, put_all}
 use Rattle.container_model.specs.Sizes.{Level, atom_front, inside, top}
 use Rattle.container_model.specs.Splice.{shift}
-use Rattle.container_model.specs.Units.{Piece, copied, lay, live, padded, replaced, shut, solids, unit_bytes}
-use Rattle.mov_model.proofs.Cells.{all_new, all_read, has_solid, padding_no_udta}
+use Rattle.container_model.specs.Units.{Piece, copied, lay, padded, replaced, shut, solids, unit_bytes}
+use Rattle.mov_model.proofs.Carry.{first_both, strip}
+use Rattle.mov_model.proofs.Cells.{Brings, all_carried, all_chunks, any_now, atoms_now, first_now, is_user, meta_sort, user_sort}
 use Rattle.mov_model.proofs.Laid.{hanging_none}
-use Rattle.mov_model.proofs.Parts.{udta_no_trak}
 use Rattle.mov_model.proofs.Tables.{relocated_alike, relocated_other}
 use Rattle.qt_text.proofs.User.{atom_made}
-use Rattle.mov_model.specs.Atoms.{cell_by, cell_of, format, is_padding, moov}
+use Rattle.mov_model.specs.Atoms.{cell_of, format, is_padding, moov}
 use Rattle.container_model.specs.Atoms.{atom, atoms_in, is}
-use Rattle.mov_model.proofs.Fits.{Fits}
-use Rattle.mov_model.specs.Carried.{carried, carry_by, first_cell, fresh, has_carrier}
+use Rattle.mov_model.proofs.Fits.{Fits, SmallBody}
+use Rattle.carrier_model.specs.Lists.{sets_some}
+use Rattle.carrier_model.specs.Steps.{carried}
+use Rattle.mov_model.specs.Carried.{Changes, fresh, steps}
+use Rattle.mov_model.specs.Keys.{edit_meta, is_meta, new_meta, new_table, with_keys}
+use Rattle.qt_keys.specs.Table.{table_bytes}
 use Rattle.mov_model.specs.Movie.{Movie, all_atoms, movie_of, spell_movie, split, split_by, top_run}
 use Rattle.mov_model.specs.New.{edit_cuts, ends_file, fill, hanging, is_open, new_kids, new_movie, padding, padding_behind, past_gaps, pieces_of, rest_behind, whole_pieces}
-use Rattle.mov_model.specs.Parts.{first_user, has_id}
+use Rattle.mov_model.specs.Parts.{first_of, has_id}
 use Rattle.mov_model.specs.Support.{Supported}
 use Rattle.mov_model.specs.Tables.{relocated}
 use Rattle.qt_text.specs.User.{udta, user_items}
@@ -115,8 +118,8 @@ module _ (f : ℕ → ℕ) where
       let same : padded c ≡ c = ap (λ (x : List ℕ). record c { pad = x }) none in
       rw same k
 
-  kid_udta : (c : Chunk) (body : List ℕ) → udta.is c ≡ true → Kid f c → length body + 16 < 2 ^ 32 → Kid f (record c { body = body })
-  kid_udta c body u k lt = record { read = atom_sized inside c body k.read lt; alike = same_alike (record c { body = body }) (relocated_other f (record c { body = body }) (udta_no_trak c u)) }
+  kid_sized : (c : Chunk) (body : List ℕ) → is c (codes "trak") ≡ false → Kid f c → length body + 16 < 2 ^ 32 → Kid f (record c { body = body })
+  kid_sized c body u k lt = record { read = atom_sized inside c body k.read lt; alike = same_alike (record c { body = body }) (relocated_other f (record c { body = body }) u) }
 
   kid_alike : (c d : Chunk) → Alike c d → Atom inside c → Atom inside d
   kid_alike c d a h =
@@ -131,50 +134,11 @@ module _ (f : ℕ → ℕ) where
   kids_alike [] h = tt
   kids_alike (c ∷ cs) h = (h.0.alike, kids_alike cs h.1)
 
--- ---- the first user data among what was read
-
-all_first_read : (P : Chunk → Type 0) (g : Chunk → Chunk) (cs : List Chunk) → AllByRecursion P cs → AllByRecursion (λ c. P (g c)) (first_user cs) → AllCells P (first_cell udta g (map cell_of cs))
-all_first_read P g [] h w = tt
-all_first_read P g (c ∷ cs) h w = go (is_padding c.id) refl (all_first_read P g cs h.1)
-  where
-    kept_one : (t : Bool) → AllByRecursion (λ c. P (g c)) (cond t (c ∷ []) (first_user cs)) → (AllByRecursion (λ c. P (g c)) (first_user cs) → AllCells P (first_cell udta g (map cell_of cs)))
-        → AllCells P (cond t (Rattle.container_model.specs.Units.edited (c ∷ []) (g c ∷ []) ∷ map cell_of cs) (Rattle.container_model.specs.Units.kept c ∷ first_cell udta g (map cell_of cs)))
-    kept_one true w again = ((w.0, tt), Rattle.mov_model.proofs.Cells.all_read P cs h.1)
-    kept_one false w again = (h.0, again w)
-
-    go : (t : Bool) → is_padding c.id ≡ t → (AllByRecursion (λ c. P (g c)) (first_user cs) → AllCells P (first_cell udta g (map cell_of cs))) → AllCells P (first_cell udta g (cell_by c t ∷ map cell_of cs))
-    go true e again = let no : udta.is c ≡ false = padding_no_udta c e in let w2 : AllByRecursion (λ c. P (g c)) (first_user cs) = rw no at w in (h.0, again w2)
-    go false e again = kept_one (udta.is c) w again
-
-abbrev pub strip : Chunk → Chunk
-strip c = record c { pad = [] }
-
--- the first user data but for its pad
-pub first_solid : (cs : List Chunk) → first_user (solids is_padding cs) ≡ map strip (first_user cs)
-first_solid [] = refl
-first_solid (c ∷ cs) = go (is_padding c.id) refl (first_solid cs)
-  where
-    kept_one : (t : Bool) → first_user (solids is_padding cs) ≡ map strip (first_user cs) → cond t (record c { pad = [] } ∷ []) (first_user (solids is_padding cs)) ≡ map strip (cond t (c ∷ []) (first_user cs))
-    kept_one true again = refl
-    kept_one false again = again
-
-    go : (t : Bool) → is_padding c.id ≡ t → first_user (solids is_padding cs) ≡ map strip (first_user cs)
-        → first_user (cond t [] (record c { pad = [] } ∷ []) ++ solids is_padding cs) ≡ map strip (cond (udta.is c) (c ∷ []) (first_user cs))
-    go true e again = rw (padding_no_udta c e) again
-    go false e again = kept_one (udta.is c) again
+-- ---- what is known of a chunk without its pad
 
 pub all_strip : (Q : Chunk → Type 0) → ((c : Chunk) → Q (strip c) → Q c) → (cs : List Chunk) → AllByRecursion Q (map strip cs) → AllByRecursion Q cs
 all_strip Q f [] h = tt
 all_strip Q f (c ∷ cs) h = (f c h.0, all_strip Q f cs h.1)
-
--- what is known of the first user data and of all
-first_both : (P Q : Chunk → Type 0) (g : Chunk → Chunk) → ((c : Chunk) → udta.is c ≡ true → P c → Q c → P (g c)) → (cs : List Chunk) → AllByRecursion P cs → AllByRecursion Q (first_user cs) → AllByRecursion (λ c. P (g c)) (first_user cs)
-first_both P Q g f [] h w = tt
-first_both P Q g f (c ∷ cs) h w = go (udta.is c) refl w (first_both P Q g f cs h.1)
-  where
-    go : (t : Bool) → udta.is c ≡ t → AllByRecursion Q (cond t (c ∷ []) (first_user cs)) → (AllByRecursion Q (first_user cs) → AllByRecursion (λ c. P (g c)) (first_user cs)) → AllByRecursion (λ c. P (g c)) (cond t (c ∷ []) (first_user cs))
-    go true u w again = (f c u h.0 w.0, tt)
-    go false u w again = again w
 
 pub whole_kids : (cs : List Chunk) → AllByRecursion (Whole format 5 moov) (solids is_padding cs) → AllByRecursion (Whole format 5 moov) cs
 unfolding Whole
@@ -198,20 +162,11 @@ module _ (f : ℕ → ℕ) where
   kids_both [] h b w = tt
   kids_both (c ∷ cs) h b w = (record { read = h.0; alike = relocated_alike f c w.0 b.0 }, kids_both cs h.1 b.1 w.1)
 
-  fresh_kids : (items : List Chunk) → AllByRecursion (λ c. length c.body ≤ 2 ^ 24) (fresh udta items) → AllByRecursion (Kid f) (fresh udta items)
-  fresh_kids [] h = tt
-  fresh_kids (c ∷ cs) h =
-      let u = udta.fresh (c ∷ cs) in
-      (record { read = atom_made inside (codes "udta") u.body refl (omega (arith, h.0)); alike = same_alike f u (relocated_other f u refl) }, tt)
-
-  carried_fine : (e : List (Item Value)) (cs : List Chunk) → AllByRecursion (Kid f) cs → AllByRecursion (λ c. Kid f (edit_carrier udta user_items e c)) (first_user cs)
-      → (has_carrier udta (flat_map live (map cell_of cs)) ≡ false → AllByRecursion (Kid f) (fresh udta (put_all user_items e []))) → AllCells (Kid f) (carried udta user_items e (map cell_of cs))
-  carried_fine [] cs h w n = all_read (Kid f) cs h
-  carried_fine (i ∷ e) cs h w n = go (has_carrier udta (flat_map live (map cell_of cs))) refl
-    where
-      go : (t : Bool) → has_carrier udta (flat_map live (map cell_of cs)) ≡ t → AllCells (Kid f) (carry_by udta user_items (i ∷ e) (map cell_of cs) t)
-      go true e2 = all_first_read (Kid f) (edit_carrier udta user_items (i ∷ e)) cs h w
-      go false e2 = all_new (Kid f) (fresh udta (put_all user_items (i ∷ e) [])) (map cell_of cs) (n e2) (all_read (Kid f) cs h)
+  kid_new : (m : Option Chunk) → IfSome m SmallBody → IfSome m (λ c. (c ≡ atom c.id c.body) × (length c.id ≡ 4) × (is c (codes "trak") ≡ false)) → IfSome m (Kid f)
+  kid_new None s n = tt
+  kid_new (Some c) s n =
+      let made : Atom inside (atom c.id c.body) = atom_made inside c.id c.body n.1 (omega (arith, s)) in
+      record { read = subst (Atom inside) (sym n.0) made; alike = same_alike f c (relocated_other f c n.2) }
 
 no_atoms : (cs : List Chunk) (left : List ℕ) → spell_all cs ++ left ≡ [] → cs ≡ []
 no_atoms [] left n = refl
@@ -267,30 +222,42 @@ module _ (o : List ℕ) (bytes : IsBytes o) (sup : Supported o) where
 
   -- ---- the edit
 
-  module _ (e : List (Item Value)) (fits : Fits mov e) where
+  module _ (e : Changes) (fits : Fits mov e) where
     abbrev pub move : ℕ → ℕ
     move = shift (edit_cuts mov e)
 
     kids_fine : AllByRecursion (Kid move) kids
     kids_fine = kids_both move kids kids_read.0 kids_bytes (whole_kids kids sup.movie.tracks_end)
 
-    -- the edited user data, or new user data, is read again
-    user_kid : AllByRecursion (λ c. Kid move (edit_carrier udta user_items e c)) (first_user kids)
-    user_kid =
-        first_both (Kid move) (λ c. length (edit_carrier udta user_items e c).body ≤ 2 ^ 24) (edit_carrier udta user_items e)
-        (λ c u k lt. kid_udta move c (edit_carrier udta user_items e c).body u k (omega (arith, lt))) kids kids_fine
-        (all_strip (λ c. length (edit_carrier udta user_items e c).body ≤ 2 ^ 24) (λ c h. h) (first_user kids) (rw (first_solid kids) at fits.user_small))
+    -- what is edited or new is read again
+    brought : AllByRecursion (Kid move) (atoms_now kids) → Brings (Kid move) e (atoms_now kids)
+    brought all =
+        record {
+          users = first_both is_user (Kid move) (λ c. SmallBody (edit_carrier udta user_items e.users c)) (λ c. Kid move (edit_carrier udta user_items e.users c))
+              (λ c u k lt. kid_sized move c (edit_carrier udta user_items e.users c).body (user_sort.no_track c u) k (omega (arith, lt))) (atoms_now kids) all
+              (all_strip (λ c. SmallBody (edit_carrier udta user_items e.users c)) (λ c h. h) (first_of is_user (atoms_now kids)) (subst (AllByRecursion (λ c. SmallBody (edit_carrier udta user_items e.users c))) (sym (first_now is_user user_sort kids)) fits.user_small));
+          new_user = λ none. kid_new move (fresh udta (put_all user_items e.users [])) (fits.fresh_small (sym (any_now is_user user_sort kids) ∙ none)) (user_atom (put_all user_items e.users []));
+          keys = first_both is_meta (Kid move) (λ c. SmallBody (edit_meta e.keys c)) (λ c. Kid move (edit_meta e.keys c))
+              (λ c u k lt. kid_sized move c (edit_meta e.keys c).body (meta_sort.no_track c u) k (omega (arith, lt))) (atoms_now kids) all
+              (all_strip (λ c. SmallBody (edit_meta e.keys c)) (λ c h. h) (first_of is_meta (atoms_now kids)) (subst (AllByRecursion (λ c. SmallBody (edit_meta e.keys c))) (sym (first_now is_meta meta_sort kids)) fits.keys_small));
+          new_keys = λ none. kid_new move (new_meta e.keys) (fits.new_keys_small (sym (any_now is_meta meta_sort kids) ∙ none)) (meta_atom (sets_some e.keys) e.keys);
+        }
+      where
+        user_atom : (items : List Chunk) → IfSome (fresh udta items) (λ c. (c ≡ atom c.id c.body) × (length c.id ≡ 4) × (is c (codes "trak") ≡ false))
+        user_atom [] = tt
+        user_atom (c ∷ cs) = (refl, refl, refl)
 
-    fresh_kid : has_carrier udta (flat_map live (map cell_of kids)) ≡ false → AllByRecursion (Kid move) (fresh udta (put_all user_items e []))
-    fresh_kid none = fresh_kids move (put_all user_items e []) (fits.fresh_small (sym (has_solid kids) ∙ none))
+        meta_atom : (t : Bool) (ks : List (Item (List ℕ))) → IfSome (cond t (Some (atom (codes "meta") (table_bytes (with_keys ks new_table)))) None) (λ c. (c ≡ atom c.id c.body) × (length c.id ≡ 4) × (is c (codes "trak") ≡ false))
+        meta_atom true ks = (refl, refl, refl)
+        meta_atom false ks = tt
 
-    cells_fine : AllCells (Kid move) (carried udta user_items e (map cell_of kids))
-    cells_fine = carried_fine move e kids kids_fine user_kid fresh_kid
+    cells_fine : AllCells (Kid move) (carried (steps e) (map cell_of kids))
+    cells_fine = all_carried (Kid move) e kids kids_fine (λ all. all_chunks (Kid move) e (atoms_now kids) all (brought all))
 
     laid_fine : AllByRecursion (Kid move) (lay (fill (is_open mov e)) (pieces_of mov e))
     laid_fine =
         lay_all (Kid move) (fill (is_open mov e)) (record { on_pads = λ c k. kid_padded move c k; on_fill = λ last slot s. fill_all (Kid move) (kid_free move) (is_open mov e) last slot s }) shut
-        (carried udta user_items e (map cell_of kids)) tt cells_fine
+        (carried (steps e) (map cell_of kids)) tt cells_fine
 
     pub new_kids_read : AllByRecursion (Atom inside) (new_kids mov e)
     new_kids_read = kids_moved move (lay (fill (is_open mov e)) (pieces_of mov e)) laid_fine

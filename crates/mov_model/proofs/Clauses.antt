@@ -1,5 +1,5 @@
 -- The clauses of the edit of a movie.
-use Rattle.std.proofs.Common.{inl, inr, ◌-◌, Bool, List, Some, [], ap, arith, cond, false, leb, length, map, refl, sym, true, ℕ, ◌++◌, ◌+◌, ◌<◌, ◌∙◌, ◌∷◌, ◌≡◌, ◌≤◌}
+use Rattle.std.proofs.Common.{inl, inr, ◌-◌, Bool, List, Some, [], ap, arith, cond, false, leb, length, map, refl, subst, sym, true, ℕ, ◌++◌, ◌+◌, ◌<◌, ◌∙◌, ◌∷◌, ◌≡◌, ◌≤◌}
 use Rattle.std.specs.Prelude.{codes, ◌&&◌}
 use Rattle.std.specs.Prelude.{◌⊎◌}
 use Rattle.std.proofs.lemmas.Bool.{and_parts, cases_lt}
@@ -7,7 +7,6 @@ use Rattle.std.proofs.lemmas.List.{length-append}
 use Rattle.std.proofs.lemmas.List.Concat.{flat_map-append}
 use Rattle.std.specs.Int.{to_be_bytes, to_le_bytes, w32, w64}
 use Rattle.std.specs.List.{AllByRecursion, flat_map}
-use Rattle.part_tree.specs.declared.field.Value.{Value}
 use Rattle.container_model.proofs.Codec.{IsBytes}
 use Rattle.container_model.proofs.Deep.{all_len}
 use Rattle.container_model.proofs.Items.{same_true, values_after}
@@ -15,10 +14,11 @@ use Rattle.container_model.proofs.Places.{before_all, before_stays, cuts_ascend,
 use Rattle.container_model.proofs.Units.{BringsPad, FillsWithPadding, units_bring, units_old, units_solids}
 use Rattle.container_model.specs.Chunk.{Chunk, Form, Run, header_bytes, long, riff, short, spell, spell_all, to_end, wide}
 use Rattle.container_model.specs.Deep.{Whole}
-use Rattle.container_model.specs.Items.{Item, is_nil, updated, values}
+use Rattle.container_model.specs.Items.{is_nil, updated, values}
 use Rattle.container_model.specs.Units.{Piece, copied, lay, replaced, shut, solid, solids, unit_bytes}
 use Rattle.mov_model.proofs.Again.{kids, kids_bytes, kids_joined, laid_alike, moov_again, moov_left, moov_padless, mov, move, now}
-use Rattle.mov_model.proofs.Cells.{gaps_carried, gaps_read, solids_carried, solids_map, was_carried, was_read}
+use Rattle.mov_model.proofs.Carry.{first_all}
+use Rattle.mov_model.proofs.Cells.{edited_chunks, edited_relocated, first_meta_relocated, first_user_relocated, gaps_carried, any_meta_relocated, is_user, solids_carried, solids_map, tracks_all, was_carried, was_read}
 use Rattle.mov_model.proofs.Held.{NoMdat, held_moves, held_next, held_past, held_skip, numbered}
 use Rattle.carrier_model.proofs.Gaps.{places_put}
 use Rattle.carrier_model.specs.Gaps.{moves_of}
@@ -29,22 +29,26 @@ use Rattle.mov_model.proofs.Again.{file_bytes}
 use Rattle.part_tree.specs.Moves.{place}
 use Rattle.carrier_model.proofs.Fitted.{last_units}
 use Rattle.mov_model.proofs.Laid.{grown_brings, grown_new, grown_old}
-use Rattle.mov_model.proofs.Parts.{KidWhole, UserWhole, edited_relocated, first_user_relocated, items_all, nodes_all, nodes_relocated, tracks_all, tracks_relocated}
+use Rattle.mov_model.proofs.Parts.{KeysFit, KidWhole, UserWhole, items_all, items_relocated, nodes_all, nodes_relocated, table_relocated, values_all}
+use Rattle.mov_model.proofs.Tracks.{tracks_relocated}
 use Rattle.mov_model.proofs.Tables.{relocated_id, relocated_pad, relocated_tables}
 use Rattle.sample_tables.proofs.Moved.{all_long, places_moved, samples_moved}
 use Rattle.mov_model.specs.Atoms.{cell_of, format, is_padding, moov}
 use Rattle.container_model.specs.Atoms.{atom, atoms_in, is}
-use Rattle.mov_model.proofs.Fits.{Fits, UserItems}
-use Rattle.mov_model.specs.Kept.{kept_in, nodes, placed}
-use Rattle.mov_model.specs.Carried.{carried, edited_chunks}
+use Rattle.mov_model.proofs.Fits.{CanSet, Fits, SmallBody}
+use Rattle.mov_model.specs.Kept.{kept_in, nodes, placed, placed_keys, placed_users}
+use Rattle.carrier_model.specs.Steps.{carried}
+use Rattle.mov_model.specs.Carried.{Changes, steps}
+use Rattle.mov_model.specs.Keys.{edit_meta, first_table, is_meta}
+use Rattle.qt_keys.specs.Set.{key_values}
 use Rattle.mov_model.specs.Movie.{Movie, all_atoms}
 use Rattle.mov_model.specs.New.{edit_cuts, ends_file, ends_open, fill, gaps_of, grown, hanging, is_open, kids_at, new_kids, padding, padding_behind, past_gaps, pieces_of, rest_behind, slot_behind, whole_pieces}
-use Rattle.mov_model.specs.Parts.{first_items, first_user, parts, track_of, tracks}
+use Rattle.mov_model.specs.Parts.{first_items, first_of, parts, track_of, tracks}
 use Rattle.mov_model.specs.Pieces.{held, is_mdat, pieces_by, pieces_in, tail_of, track_pieces}
 use Rattle.mov_model.specs.Support.{IsHeld, Supported, TrackFine}
 use Rattle.mov_model.specs.Tables.{relocated, tables}
 use Rattle.sample_tables.specs.Tables.{moved_table, FitsRows, places}
-use Rattle.qt_text.specs.User.{udta, user_items}
+use Rattle.qt_text.specs.User.{user_items}
 
 -- ---- padding is not looked at
 
@@ -73,7 +77,7 @@ past_nothing (c ∷ cs) = go (is_padding c.id) refl (past_nothing cs)
     go true e again = again
     go false e again = rw e refl
 
-pub behind_solids : (m : Movie) (e : List (Item Value)) → solids is_padding (padding_behind m e ++ rest_behind m e) ≡ solids is_padding m.behind
+pub behind_solids : (m : Movie) (e : Changes) → solids is_padding (padding_behind m e ++ rest_behind m e) ≡ solids is_padding m.behind
 behind_solids m e = flat_map-append (solid is_padding) (padding_behind m e) (rest_behind m e) ∙ rw (one (is_open m e), two (is_open m e)) refl
   where
     one : (t : Bool) → solids is_padding (cond t (hanging (fill (ends_file m e)) (whole_pieces m e)) []) ≡ []
@@ -97,14 +101,6 @@ all_solids Q f (c ∷ cs) h = go (is_padding c.id) (all_solids Q f cs h.1)
 pub all_and : (P Q R : Chunk → Type 0) → ((c : Chunk) → P c → Q c → R c) → (cs : List Chunk) → AllByRecursion P cs → AllByRecursion Q cs → AllByRecursion R cs
 all_and P Q R f [] h g = tt
 all_and P Q R f (c ∷ cs) h g = (f c h.0 g.0, all_and P Q R f cs h.1 g.1)
-
-pub all_first_user : (P : Chunk → Type 0) (cs : List Chunk) → AllByRecursion P cs → AllByRecursion P (first_user cs)
-all_first_user P [] h = tt
-all_first_user P (c ∷ cs) h = go (udta.is c) (all_first_user P cs h.1)
-  where
-    go : (t : Bool) → AllByRecursion P (first_user cs) → AllByRecursion P (cond t (c ∷ []) (first_user cs))
-    go true again = (h.0, tt)
-    go false again = again
 
 pub all_tracks : (P : Chunk → Type 0) (cs : List Chunk) → AllByRecursion P cs → AllByRecursion P (flat_map track_of cs)
 all_tracks P [] h = tt
@@ -153,11 +149,11 @@ gaps_no_mdat (c ∷ cs) = go (is_padding c.id) refl (gaps_no_mdat cs)
     go true e again = (padding_no_mdat c e, again)
     go false e again = tt
 
-module _ (m : Movie) (e : List (Item Value)) where
+module _ (m : Movie) (e : Changes) where
   kept_bytes : old_length (pieces_of m e) ≡ length (spell_all (atoms_in m.movie).chunks)
   kept_bytes =
       let xs = map cell_of (atoms_in m.movie).chunks in
-      ap length (units_old shut (carried udta user_items e xs) ∙ ap spell_all (was_carried e xs ∙ was_read (atoms_in m.movie).chunks))
+      ap length (units_old shut (carried (steps e) xs) ∙ ap spell_all (was_carried e xs ∙ was_read (atoms_in m.movie).chunks))
 
   pub behind_split : slot_behind m e ++ rest_behind m e ≡ m.behind
   behind_split = go (is_open m e)
@@ -173,14 +169,14 @@ module _ (m : Movie) (e : List (Item Value)) where
   whole_old = go (is_open m e) refl
     where
       go : (t : Bool) → is_open m e ≡ t → old_length (cond t (grown (spell_all (gaps_of m.behind)) (pieces_of m e)) (pieces_of m e)) ≡ old_length (pieces_of m e) + length (spell_all (cond t (gaps_of m.behind) []))
-      go true o = grown_old (spell_all (gaps_of m.behind)) (pieces_of m e) (last_units shut (carried udta user_items e (map cell_of (atoms_in m.movie).chunks))) (opened_last o)
+      go true o = grown_old (spell_all (gaps_of m.behind)) (pieces_of m e) (last_units shut (carried (steps e) (map cell_of (atoms_in m.movie).chunks))) (opened_last o)
       go false o = omega arith
 
   pub whole_brings : BringsPad (whole_pieces m e)
   whole_brings = go (is_open m e)
     where
       b : BringsPad (pieces_of m e)
-      b = units_bring shut (carried udta user_items e (map cell_of (atoms_in m.movie).chunks)) tt
+      b = units_bring shut (carried (steps e) (map cell_of (atoms_in m.movie).chunks)) tt
 
       go : (t : Bool) → BringsPad (cond t (grown (spell_all (gaps_of m.behind)) (pieces_of m e)) (pieces_of m e))
       go true = grown_brings (spell_all (gaps_of m.behind)) (pieces_of m e) b
@@ -192,7 +188,7 @@ module _ (m : Movie) (e : List (Item Value)) where
       go : (t : Bool) → is_open m e ≡ t
           → length (spell_all (lay (fill (ends_file m e)) (cond t (grown (spell_all (gaps_of m.behind)) (pieces_of m e)) (pieces_of m e))))
           ≡ length (spell_all (lay (fill t) (pieces_of m e))) + length (spell_all (cond t (hanging (fill (ends_file m e)) (cond t (grown (spell_all (gaps_of m.behind)) (pieces_of m e)) (pieces_of m e))) []))
-      go true o = grown_new (ends_file m e) (spell_all (gaps_of m.behind)) (pieces_of m e) (last_units shut (carried udta user_items e (map cell_of (atoms_in m.movie).chunks))) (opened_last o)
+      go true o = grown_new (ends_file m e) (spell_all (gaps_of m.behind)) (pieces_of m e) (last_units shut (carried (steps e) (map cell_of (atoms_in m.movie).chunks))) (opened_last o)
       go false o = let no : ends_file m e ≡ false = ap (λ (t : Bool). t && (is_nil (rest_behind m e) && is_nil m.left)) o in omega (arith, ap (λ (t : Bool). length (spell_all (lay (fill t) (pieces_of m e)))) no)
 
   padding_no_mdats : NoMdat (padding_behind m e)
@@ -223,7 +219,7 @@ held_inside k p x (c ∷ cs) h = go (cases_lt p (length (spell c))) (λ g. held_
     go (inl lt) again = omega (arith, length-append (spell c) (spell_all cs))
     go (inr le) again = omega (arith, again (sym (held_next k p c cs le) ∙ h), length-append (spell c) (spell_all cs))
 
-module _ (o : List ℕ) (bytes : IsBytes o) (sup : Supported o) (e : List (Item Value)) where
+module _ (o : List ℕ) (bytes : IsBytes o) (sup : Supported o) (e : Changes) where
   abbrev was : Movie
   was = mov o bytes sup
 
@@ -286,7 +282,7 @@ module _ (o : List ℕ) (bytes : IsBytes o) (sup : Supported o) (e : List (Item 
 
 -- ---- the edit of a supported movie
 
-module _ (o : List ℕ) (bytes : IsBytes o) (sup : Supported o) (e : List (Item Value)) (user : UserItems e) (fits : Fits (mov o bytes sup) e) where
+module _ (o : List ℕ) (bytes : IsBytes o) (sup : Supported o) (e : Changes) (can : CanSet e) (fits : Fits (mov o bytes sup) e) where
   abbrev old : Movie
   old = mov o bytes sup
 
@@ -299,40 +295,56 @@ module _ (o : List ℕ) (bytes : IsBytes o) (sup : Supported o) (e : List (Item 
   pub parts_whole : AllByRecursion KidWhole (parts old)
   parts_whole = all_and (Whole format 5 moov) (λ c. IsBytes c.body) KidWhole (λ c w b. (w, b)) (parts old) sup.movie.tracks_end (all_solids (λ c. IsBytes c.body) (λ c b. b) (kids o bytes sup) (kids_bytes o bytes sup))
 
-  pub user_whole : AllByRecursion UserWhole (first_user (map (relocated f) (parts old)))
+  parts_bytes : AllByRecursion (λ c. IsBytes c.body) (parts old)
+  parts_bytes = all_solids (λ c. IsBytes c.body) (λ c b. b) (kids o bytes sup) (kids_bytes o bytes sup)
+
+  pub user_whole : AllByRecursion UserWhole (first_of is_user (map (relocated f) (parts old)))
   user_whole =
-      rw (first_user_relocated f (parts old))
-      (all_and _ (λ c. IsBytes c.body) UserWhole (λ c w b. (w, b)) (first_user (parts old)) sup.movie.user_ends (all_first_user (λ c. IsBytes c.body) (parts old) (all_solids (λ c. IsBytes c.body) (λ c b. b) (kids o bytes sup) (kids_bytes o bytes sup))))
+      rw (first_user_relocated f (parts old)) (all_and _ (λ c. IsBytes c.body) UserWhole (λ c w b. (w, b)) (first_of is_user (parts old)) sup.movie.user_ends (first_all is_user (λ c. IsBytes c.body) (λ c. IsBytes c.body) (λ c u b. b) (parts old) parts_bytes))
+
+  pub keys_whole : KeysFit e.keys (map (relocated f) (parts old))
+  keys_whole =
+      let same = sym (first_meta_relocated f (parts old)) in
+      record {
+        bytes = subst (AllByRecursion (λ c. IsBytes c.body)) same (first_all is_meta (λ c. IsBytes c.body) (λ c. IsBytes c.body) (λ c u b. b) (parts old) parts_bytes);
+        small = subst (AllByRecursion (λ c. SmallBody (edit_meta e.keys c))) same fits.keys_small;
+        new_small = λ none. fits.new_keys_small (sym (any_meta_relocated f (parts old)) ∙ none);
+      }
 
   -- moov's atoms, but for padding, are the old ones relocated and edited
-  pub new_parts : parts new ≡ edited_chunks udta user_items e (map (relocated f) (parts old))
+  pub new_parts : parts new ≡ edited_chunks e (map (relocated f) (parts old))
   new_parts =
       let xs = map cell_of (kids o bytes sup) in
       ap (λ (r : Run). solids is_padding r.chunks) (moov_again o bytes sup e fits)
       ∙ solids_map (relocated f) (relocated_id f) (relocated_pad f) (lay (fill (is_open old e)) (pieces_of old e))
-      ∙ ap (map (relocated f)) (units_solids is_padding (fill (is_open old e)) (fill_nothing (is_open old e)) shut (carried udta user_items e xs) (gaps_carried e xs (gaps_read (kids o bytes sup))) ∙ solids_carried e (kids o bytes sup))
+      ∙ ap (map (relocated f)) (units_solids is_padding (fill (is_open old e)) (fill_nothing (is_open old e)) shut (carried (steps e) xs) (gaps_carried e (kids o bytes sup)) ∙ solids_carried e (kids o bytes sup))
       ∙ edited_relocated f e (parts old)
 
   -- clause 2
-  pub new_fields : (name : List ℕ) → values user_items name (first_items (parts new)) ≡ updated e name (values user_items name (first_items (parts old)))
-  new_fields name =
+  pub new_users : (name : List ℕ) → values user_items name (first_items (parts new)) ≡ updated e.users name (values user_items name (first_items (parts old)))
+  new_users name =
       ap (λ (cs : List Chunk). values user_items name (first_items cs)) new_parts
-      ∙ ap (values user_items name) (items_all e (map (relocated f) (parts old)) user user_whole)
-      ∙ values_after user_items e name (first_items (map (relocated f) (parts old))) (Rattle.qt_text.proofs.User.all_made e user)
-      ∙ ap (λ (cs : List Chunk). updated e name (values user_items name cs)) (Rattle.mov_model.proofs.Parts.items_relocated f (parts old))
+      ∙ ap (values user_items name) (items_all e (map (relocated f) (parts old)) can.users user_whole)
+      ∙ values_after user_items e.users name (first_items (map (relocated f) (parts old))) (Rattle.qt_text.proofs.User.all_made e.users can.users)
+      ∙ ap (λ (cs : List Chunk). updated e.users name (values user_items name cs)) (items_relocated f (parts old))
+
+  pub new_keys : (name : List ℕ) → key_values name (first_table (parts new)) ≡ updated e.keys name (key_values name (first_table (parts old)))
+  new_keys name =
+      ap (λ (cs : List Chunk). key_values name (first_table cs)) new_parts ∙ values_all e (map (relocated f) (parts old)) name can.keys keys_whole
+      ∙ ap (λ t. updated e.keys name (key_values name t)) (table_relocated f (parts old))
 
   -- clause 3
   pub new_kept : kept_in new ≡ placed (kept_in old) e
   new_kept =
-      let inside : nodes (parts new) ≡ Rattle.mov_model.specs.Kept.placed_nodes e (nodes (parts old))
-      = ap nodes new_parts ∙ nodes_all e (map (relocated f) (parts old)) user user_whole ∙ ap (Rattle.mov_model.specs.Kept.placed_nodes e) (nodes_relocated f (parts old) parts_whole) in
+      let inside : nodes (parts new) ≡ placed_keys e.keys (placed_users e.users (nodes (parts old)))
+      = ap nodes new_parts ∙ nodes_all e (map (relocated f) (parts old)) can.users user_whole can.keys keys_whole ∙ ap (λ ns. placed_keys e.keys (placed_users e.users ns)) (nodes_relocated f (parts old) parts_whole) in
       let rest : (atoms_in new.movie).left ≡ moov_left o bytes sup = ap (λ (r : Run). r.left) (moov_again o bytes sup e fits) in
       rw (inside, rest, behind_solids old e) refl
 
   -- ---- clause 4
 
   pub new_tracks : tracks new ≡ map (relocated f) (tracks old)
-  new_tracks = ap (flat_map track_of) new_parts ∙ tracks_all e (map (relocated f) (parts old)) user ∙ tracks_relocated f (parts old)
+  new_tracks = ap (flat_map track_of) new_parts ∙ tracks_all e (map (relocated f) (parts old)) ∙ tracks_relocated f (parts old)
 
   new_kids_len : length (spell_all (new_kids old e)) ≡ length (spell_all (lay (fill (is_open old e)) (pieces_of old e)))
   new_kids_len = all_len (relocated f) (lay (fill (is_open old e)) (pieces_of old e)) (laid_alike o bytes sup e fits)

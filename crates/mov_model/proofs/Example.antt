@@ -9,11 +9,11 @@ use Rattle.part_tree.specs.declared.field.RuleSet.TheVariants.{Base}
 use Rattle.part_tree.specs.declared.names.Kind.TheVariants.{Mov}
 use Rattle.field_model.specs.Broken.{broken}
 use Rattle.container_model.specs.Chunk.{read, chunks}
-use Rattle.mov_model.specs.Support.{Supported}
-use Rattle.mov_model.specs.Edited.{Edited, fields}
-use Rattle.mov_model.proofs.Fields.{edit_law}
+use Rattle.field_model.specs.Kind.{Edited}
+use Rattle.mov_model.specs.Edited.{fields}
+use Rattle.mov_model.specs.Kind.{narrow_kind}
+use Rattle.mov_model.proofs.AsKind.{is_kind}
 use Rattle.mov_model.proofs.Rows.{reel, reel_named, set, big, fine_reel, named_in_place, not_too_large}
-use Rattle.mov_model.proofs.Why.{none_supported}
 
 abbrev all_below : List ℕ → Bool
 all_below [] = true
@@ -24,12 +24,9 @@ are_bytes [] e i = omega arith
 are_bytes (x ∷ b) e zero = ltb-true _ _ (and_parts (ltb x 256) (all_below b) e).0
 are_bytes (x ∷ b) e (suc i) = are_bytes b (and_parts (ltb x 256) (all_below b) e).1 i
 
-supported : Supported reel
-supported = none_supported reel fine_reel
-
 keeps_rules : broken Mov 0 (fields reel) (set big) Base ≡ None
 unfolding read chunks is_utf8 chars encode
 keeps_rules = refl
 
-pub edited : Edited reel (set big) reel_named
-edited = subst (Edited reel (set big)) named_in_place (edit_law reel (set big) (are_bytes reel refl) supported keeps_rules refl not_too_large)
+pub edited : Edited narrow_kind reel (set big) reel_named
+edited = subst (Edited narrow_kind reel (set big)) named_in_place (is_kind.edited reel (set big) (are_bytes reel refl) fine_reel keeps_rules not_too_large)

@@ -7,10 +7,9 @@ use Rattle.std.proofs.lemmas.Bool.{and_parts, cases_lt, cond-true, cond-false, e
 use Rattle.std.proofs.lemmas.List.{append-nil, drop_all, drop_at, length-append, length-drop, take_at}
 use Rattle.me_bytes.specs.Bytes.{IsBytes, overlay}
 use Rattle.part_tree.specs.declared.field.EditItem.{EditItem}
-use Rattle.part_tree.specs.declared.field.Value.{Value}
 use Rattle.part_tree.specs.Patches.{patched, laid}
 use Rattle.container_model.specs.Chunk.{Form, header_bytes, Chunk, spell, spell_all}
-use Rattle.container_model.specs.Items.{Item, is_nil}
+use Rattle.container_model.specs.Items.{is_nil}
 use Rattle.container_model.specs.Sizes.{top}
 use Rattle.container_model.specs.Splice.{shift, splice}
 use Rattle.container_model.specs.Units.{Piece, copied, replaced, shut, old_bytes, unit_bytes, lay}
@@ -19,10 +18,10 @@ use Rattle.container_model.proofs.Read.{AtomForm, told_of}
 use Rattle.container_model.proofs.Units.{lay_splices}
 use Rattle.mov_model.specs.Atoms.{cell_of}
 use Rattle.container_model.specs.Atoms.{atom, atoms_in}
-use Rattle.qt_text.specs.User.{user_items, udta}
 use Rattle.mov_model.specs.Tables.{tables}
 use Rattle.sample_tables.specs.Tables.{places}
-use Rattle.mov_model.specs.Carried.{carried}
+use Rattle.carrier_model.specs.Steps.{carried}
+use Rattle.mov_model.specs.Carried.{Changes, steps}
 use Rattle.mov_model.specs.Movie.{Movie, all_atoms, movie_of}
 use Rattle.mov_model.specs.New.{padding, fill, gaps_of, grown, pieces_of, is_open, rest_behind, whole_pieces, ends_file, kids_at, edit_cuts, new_movie}
 use Rattle.mov_model.specs.Parts.{tracks}
@@ -151,7 +150,7 @@ module _ (o : List ℕ) (e : List EditItem) (bytes : IsBytes o) (sup : Supported
   abbrev m : Movie
   m = movie_of o
 
-  abbrev c : List (Item Value)
+  abbrev c : Changes
   c = changes o e
 
   abbrev ps : List Piece
@@ -170,7 +169,7 @@ module _ (o : List ℕ) (e : List EditItem) (bytes : IsBytes o) (sup : Supported
   only_last = go (is_open m c)
     where
       made : LastOnly (pieces_of m c)
-      made = last_units shut (carried udta user_items c (map cell_of (atoms_in m.movie).chunks))
+      made = last_units shut (carried (steps c) (map cell_of (atoms_in m.movie).chunks))
 
       go : (t : Bool) → LastOnly (cond t (grown (spell_all (gaps_of m.behind)) (pieces_of m c)) (pieces_of m c))
       go true = grown_last (spell_all (gaps_of m.behind)) (pieces_of m c) made

@@ -18,9 +18,10 @@ use Rattle.mov_model.specs.Parts.{first_user, track_of}
 use Rattle.mov_model.specs.Reading.{row, kid_steps, inside_steps, atoms_met, names, names_of, no_twice}
 use Rattle.mov_model.specs.Support.{is_refused}
 use Rattle.mov_model.specs.Why.{moov_id, met_user}
-use Rattle.mov_model.proofs.Again.{first_solid, all_strip, strip}
+use Rattle.mov_model.proofs.Again.{all_strip}
+use Rattle.mov_model.proofs.Carry.{first_solids, strip}
+use Rattle.mov_model.proofs.Cells.{is_user, user_sort}
 use Rattle.mov_model.proofs.Clauses.{all_tracks, all_solids}
-use Rattle.mov_model.proofs.Parts.{udta_no_trak}
 use Rattle.mov_model.proofs.Steps.{Good, back, good_parts, parts_good, met_both, met_back, met_row, listed_back, bad_none, user_good, good_user, low_prefix, AtomFine, StepFine, step_names, track_good, good_track, inner, walk_kid, inner_track, track_ids}
 use Rattle.container_model.proofs.Tests.{guard, guarded, stop_ends}
 
@@ -167,7 +168,7 @@ fine_ok seen (c ∷ cs) h = go seen (udta.is c) refl h.0 (fine_ok (seen || udta.
     go : (seen u : Bool) → udta.is c ≡ u → KidFine (not seen && u) c → AllByRecursion KidOk cs × ((seen || u) ≡ false → AllByRecursion UserOk (first_user cs))
         → (KidOk c × AllByRecursion KidOk cs) × (seen ≡ false → AllByRecursion UserOk (cond u (c ∷ []) (first_user cs)))
     go true u i k again = ((k, again.0), λ e. absurd cc)
-    go false true i k again = ((plain_ok c (udta_no_trak c i) (user_refused c i), again.0), λ e. (k, tt))
+    go false true i k again = ((plain_ok c (user_sort.no_track c i) (user_refused c i), again.0), λ e. (k, tt))
     go false false i k again = ((k, again.0), again.1)
 
 ok_fine : (seen : Bool) (cs : List Chunk) → AllByRecursion KidOk cs → (seen ≡ false → AllByRecursion UserOk (first_user cs)) → KidsFine seen cs
@@ -347,11 +348,11 @@ kids_to (c ∷ ps) r w t = go (is c (codes "trak")) refl t (kids_to ps r.1 w.1)
 pub kids_are : (cs : List Chunk) → KidsFine false cs → KidsAre (solids is_padding cs)
 kids_are cs h =
     let f = fine_ok false cs h in
-    kids_from (solids is_padding cs) (all_solids KidOk strip_ok cs f.0) (subst (AllByRecursion UserOk) (sym (first_solid cs)) (strip_all (first_user cs) (f.1 refl)))
+    kids_from (solids is_padding cs) (all_solids KidOk strip_ok cs f.0) (subst (AllByRecursion UserOk) (sym (first_solids is_user user_sort cs)) (strip_all (first_user cs) (f.1 refl)))
 
 pub are_kids : (cs : List Chunk) → KidsAre (solids is_padding cs) → KidsFine false cs
 are_kids cs h =
-    ok_fine false cs (solid_ok cs (kids_to (solids is_padding cs) h.not_refused h.whole h.tracks)) (λ e. all_strip UserOk (λ c x. x) (first_user cs) (subst (AllByRecursion UserOk) (first_solid cs) h.user))
+    ok_fine false cs (solid_ok cs (kids_to (solids is_padding cs) h.not_refused h.whole h.tracks)) (λ e. all_strip UserOk (λ c x. x) (first_user cs) (subst (AllByRecursion UserOk) (first_solids is_user user_sort cs) h.user))
 
 -- each of them is fine
 pub kids_ok : (cs : List Chunk) → KidsAre (solids is_padding cs) → AllByRecursion KidOk cs

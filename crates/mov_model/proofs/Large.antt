@@ -1,28 +1,29 @@
 -- What is not too large fits.
-use Rattle.std.proofs.Common.{Bool, List, None, Some, [], ap, arith, cond, false, length, map, refl, subst, sym, true, ℕ, ◌++◌, ◌<◌, ◌^◌, ◌∷◌, ◌≡◌, ◌≤◌}
-use Rattle.std.specs.Prelude.{codes}
+use Rattle.std.proofs.Common.{Bool, List, None, Option, Some, [], ap, arith, cond, false, length, map, refl, subst, sym, true, ℕ, ◌++◌, ◌<◌, ◌^◌, ◌∷◌, ◌≡◌, ◌≤◌}
+use Rattle.std.specs.Prelude.{IfSome, codes}
 use Rattle.std.proofs.lemmas.Bool.{ltb-false}
 use Rattle.std.specs.Prelude.{◌⊎◌, ◌-◌}
 use Rattle.std.proofs.Common.{inl, inr}
-use Rattle.std.specs.List.{AllByRecursion, flat_map}
-use Rattle.part_tree.specs.declared.field.Value.{Value}
+use Rattle.std.specs.List.{AllByRecursion, flat_map, list_any}
 use Rattle.container_model.proofs.Codec.{IsBytes}
 use Rattle.container_model.proofs.Items.{same_true}
 use Rattle.container_model.specs.Chunk.{Chunk}
-use Rattle.container_model.specs.Items.{Item, edit_carrier, put_all}
+use Rattle.container_model.specs.Items.{edit_carrier, listed, put_all}
 use Rattle.container_model.specs.Rows.{be32, be64}
 use Rattle.container_model.specs.Splice.{shift}
-use Rattle.mov_model.proofs.Edited.{edited_law, new_nothing}
+use Rattle.mov_model.proofs.Cells.{is_user}
+use Rattle.mov_model.proofs.Edited.{edited_law, new_nothing, none_done}
 use Rattle.mov_model.proofs.Parts.{placed_nothing}
 use Rattle.container_model.specs.Atoms.{is}
-use Rattle.mov_model.proofs.Fits.{EditedBy, Fits, UserItems}
-use Rattle.mov_model.specs.Kept.{Node, kept, nodes}
-use Rattle.mov_model.specs.Large.{all_sizes, row_sizes, table_sizes, size_passed, user_sizes}
+use Rattle.mov_model.proofs.Fits.{CanSet, EditedBy, Fits, SmallBody}
+use Rattle.mov_model.specs.Kept.{Node, kept}
+use Rattle.mov_model.specs.Large.{all_sizes, body_size, key_sizes, row_sizes, table_sizes, user_sizes}
 use Rattle.part_tree.specs.Large.{Size, limited, is_above, first_above}
-use Rattle.mov_model.specs.Carried.{fresh, has_carrier}
+use Rattle.mov_model.specs.Carried.{Changes, fresh}
+use Rattle.mov_model.specs.Keys.{edit_meta, is_meta, new_meta}
 use Rattle.mov_model.specs.Movie.{Movie, movie_of}
 use Rattle.mov_model.specs.New.{edit_cuts, edited_file}
-use Rattle.mov_model.specs.Parts.{first_user, parts, tracks}
+use Rattle.mov_model.specs.Parts.{first_of, parts, tracks}
 use Rattle.mov_model.specs.Support.{Supported}
 use Rattle.mov_model.specs.Tables.{tables}
 use Rattle.sample_tables.specs.Tables.{FitsRows, rows}
@@ -77,45 +78,58 @@ tracks_fit : (f : ℕ → ℕ) (ts : List Chunk) → AllByRecursion (λ (t : Chu
 tracks_fit f [] h = tt
 tracks_fit f (t ∷ ts) h = (rows_fit f (tables t) (within_flat (row_sizes f) (tables t) h.0), tracks_fit f ts h.1)
 
-pub fits_of : (m : Movie) (e : List (Item Value)) → first_above (all_sizes m e) ≡ None → Fits m e
+if_within : (m : Option Chunk) → Within (map body_size (listed m)) → IfSome m SmallBody
+if_within None h = tt
+if_within (Some c) h = h.0
+
+-- a carrier that is edited or new
+carrier_fits : (sort : Chunk → Bool) (g : Chunk → Chunk) (new : Option Chunk) (cs : List Chunk) → Within (map (λ c. body_size (g c)) (first_of sort cs) ++ cond (list_any sort cs) [] (map body_size (listed new)))
+    → AllByRecursion (λ c. SmallBody (g c)) (first_of sort cs) × (list_any sort cs ≡ false → IfSome new SmallBody)
+carrier_fits sort g new cs h =
+    let u = within_both (map (λ c. body_size (g c)) (first_of sort cs)) _ h in
+    (within_map (λ c. body_size (g c)) (first_of sort cs) u.0, λ n. if_within new (let one : cond (list_any sort cs) [] (map body_size (listed new)) ≡ map body_size (listed new) = rw n refl in rw one at u.1))
+
+pub fits_of : (m : Movie) (e : Changes) → first_above (all_sizes m e) ≡ None → Fits m e
 fits_of m e none =
     let all = within (all_sizes m e) none in
-    let a = within_both (user_sizes m e) _ all in
-    let u = within_both (map (λ (c : Chunk). limited (2 ^ 24) (length (edit_carrier udta user_items e c).body)) (first_user (parts m))) _ a.0 in
-    let t = within_both (table_sizes m e) _ a.1.1.1 in
+    let a = within_both (user_sizes m e.users) _ all in
+    let b = within_both (key_sizes m e.keys) _ a.1 in
+    let t = within_both (table_sizes m e) _ b.1.1.1 in
+    let u = carrier_fits is_user (edit_carrier udta user_items e.users) (fresh udta (put_all user_items e.users [])) (parts m) a.0 in
+    let k = carrier_fits is_meta (edit_meta e.keys) (new_meta e.keys) (parts m) b.0 in
     record {
-      user_small = within_map (λ (c : Chunk). limited (2 ^ 24) (length (edit_carrier udta user_items e c).body)) (first_user (parts m)) u.0;
-      fresh_small = λ n.
-          let one : cond (has_carrier udta (parts m)) [] (map (λ (c : Chunk). limited (2 ^ 24) (length c.body)) (fresh udta (put_all user_items e []))) ≡ map (λ (c : Chunk). limited (2 ^ 24) (length c.body)) (fresh udta (put_all user_items e [])) = rw n refl in
-          within_map (λ (c : Chunk). limited (2 ^ 24) (length c.body)) (fresh udta (put_all user_items e [])) (rw one at u.1);
-      movie_small = a.1.1.0;
+      user_small = u.0;
+      fresh_small = u.1;
+      keys_small = k.0;
+      new_keys_small = k.1;
+      movie_small = b.1.1.0;
       rows = tracks_fit (shift (edit_cuts m e)) (tracks m) (within_flat (λ (t : Chunk). flat_map (row_sizes (shift (edit_cuts m e))) (tables t)) (tracks m) t.0);
-      few_parts = a.1.0;
+      few_parts = b.1.0;
     }
 
 -- nothing is done without an item
-edited_nothing : (o : List ℕ) → Supported o → EditedBy o [] o
+edited_nothing : (o : List ℕ) → Supported o → EditedBy o none_done o
 edited_nothing o sup =
     record {
       supported = sup;
-      reads_back = λ name. refl;
-      kept_in_order = ap (λ (ns : List Node). record (kept o) { inside = ns }) (sym (placed_nothing (nodes (parts (movie_of o)))));
+      users_back = λ name. refl;
+      keys_back = λ name. refl;
+      kept_in_order = ap (λ (ns : List Node). record (kept o) { inside = ns }) (sym (placed_nothing (parts (movie_of o))));
       same_pieces = refl;
-      no_effect = λ none. refl;
     }
 
--- The law, where nothing is too large.
-pub whole_law : (o : List ℕ) (e : List (Item Value)) → IsBytes o → Supported o → UserItems e → size_passed (movie_of o) e ≡ None → EditedBy o e (edited_file o e)
-whole_law o [] bytes sup user none = subst (EditedBy o []) (sym (new_nothing o bytes sup)) (edited_nothing o sup)
-whole_law o (i ∷ e) bytes sup user none = edited_law o (i ∷ e) bytes sup user (fits_of (movie_of o) (i ∷ e) none)
+-- The law, where there is no change or nothing is too large.
+pub whole_law : (o : List ℕ) (e : Changes) → IsBytes o → Supported o → CanSet e → (e ≡ none_done) ⊎ (first_above (all_sizes (movie_of o) e) ≡ None) → EditedBy o e (edited_file o e)
+whole_law o e bytes sup can (inl i) = subst (λ (x : Changes). EditedBy o x (edited_file o x)) (sym i) (subst (EditedBy o none_done) (sym (new_nothing o bytes sup)) (edited_nothing o sup))
+whole_law o e bytes sup can (inr none) = edited_law o e bytes sup can (fits_of (movie_of o) e none)
 
 -- The new file has a length that can be told.
-pub length_law : (o : List ℕ) (e : List (Item Value)) → size_passed (movie_of o) e ≡ None → (e ≡ []) ⊎ (length (edited_file o e) ≤ 2 ^ 63 - 1)
+pub length_law : (o : List ℕ) (e : Changes) → first_above (all_sizes (movie_of o) e) ≡ None → length (edited_file o e) ≤ 2 ^ 63 - 1
 unfolding edited_file
-length_law o [] none = inl refl
-length_law o (i ∷ e) none =
+length_law o e none =
     let m = movie_of o in
-    let all = within (all_sizes m (i ∷ e)) none in
-    let a = within_both (user_sizes m (i ∷ e)) _ all in
-    let t = within_both (table_sizes m (i ∷ e)) _ a.1.1.1 in
-    inr (omega (arith, t.1.0))
+    let all = within (all_sizes m e) none in
+    let a = within_both (user_sizes m e.users) _ all in
+    let b = within_both (key_sizes m e.keys) _ a.1 in
+    let t = within_both (table_sizes m e) _ b.1.1.1 in
+    omega (arith, t.1.0)

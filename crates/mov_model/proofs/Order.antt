@@ -1,8 +1,8 @@
--- The patches of an edit that has room stand in order, and there are two at most.
+-- The patches of an edit that has room stand in order, and there are three at most.
 use Rattle.std.proofs.Common.{◌≡◌, ℕ, suc, ◌+◌, ◌<◌, ◌≤◌, Bool, true, false, cond, eqb, List, [], ◌∷◌, ◌++◌, length, map, refl, sym, ap, subst, ◌∙◌, arith, inl, inr}
 use Rattle.std.specs.Prelude.{◌&&◌, not, codes}
 use Rattle.std.specs.Int.{w32, w64, to_be_bytes}
-use Rattle.std.specs.List.{flat_map, AllByRecursion}
+use Rattle.std.specs.List.{flat_map, list_any, AllByRecursion}
 use Rattle.std.proofs.lemmas.Bool.{and_parts, le-ltb, leb-true}
 use Rattle.std.proofs.lemmas.List.{length-append}
 use Rattle.me_bytes.specs.Bytes.{IsBytes}
@@ -17,7 +17,13 @@ use Rattle.container_model.specs.Units.{Cell, kept, gap, edited, live, lacks_pad
 use Rattle.container_model.proofs.Read.{Atom, AtomForm}
 use Rattle.mov_model.specs.Atoms.{cell_by, cell_of, is_padding}
 use Rattle.qt_text.specs.User.{user_items, udta}
-use Rattle.mov_model.specs.Carried.{first_cell, add_last, only_gaps, add_new, fresh, carry_by, carried, has_carrier}
+use Rattle.carrier_model.specs.Cells.{acted_cells, behind, changed_cell, count_all, insert_cell, leave, never, new_cell, only_gaps, settle_cells}
+use Rattle.carrier_model.specs.Steps.{carried}
+use Rattle.mov_model.specs.Carried.{Changes, carry, carry_by, first_becomes, fresh, key_step, steps, user_step}
+use Rattle.mov_model.specs.Keys.{edit_meta, is_meta, new_meta}
+use Rattle.mov_model.proofs.Carry.{none_meets}
+use Rattle.mov_model.proofs.Cells.{is_user}
+use Rattle.std.proofs.Common.{None, Option, Some, zero}
 use Rattle.mov_model.specs.Movie.{Movie, movie_of}
 use Rattle.mov_model.specs.New.{fill, gaps_of, grown, pieces_of, is_open, whole_pieces, ends_file, kids_at, new_movie}
 use Rattle.mov_model.specs.Support.{Supported}
@@ -29,9 +35,9 @@ use Rattle.carrier_model.proofs.Fitted.{fitting_length, units_cover, units_in_or
 use Rattle.mov_model.specs.Room.{units_fit, size_patch, moov_patch, patches, Room}
 use Rattle.mov_model.proofs.Again.{kids, kids_read}
 use Rattle.mov_model.proofs.Clauses.{header_len, whole_brings}
-use Rattle.mov_model.proofs.InPlace.{behind, fit, moov_form, new_is, none_behind, old_len, only_last}
+use Rattle.mov_model.proofs.InPlace.{behind as rest_of, fit, moov_form, new_is, none_behind, old_len, only_last}
 
--- ---- one unit at most
+-- ---- two units at most
 
 abbrev pub units_in : List Piece → ℕ
 units_in [] = 0
@@ -89,39 +95,70 @@ read_cells (c ∷ cs) h = go (is_padding c.id) (read_cells cs h.1)
     go true r = ((has, r.0), r.1)
     go false r = ((has, r.0), r.1)
 
-first_one : (g : Chunk → Chunk) (xs : List Cell) → Padded xs → Padded (first_cell udta g xs) × (edited_in (first_cell udta g xs) ≤ suc (edited_in xs))
-first_one g [] h = (tt, omega arith)
-first_one g (gap c ∷ xs) h = let r = first_one g xs h.1 in ((h.0, r.0), r.1)
-first_one g (kept c ∷ xs) h = go (udta.is c) (first_one g xs h.1)
+-- ---- each step edits one cell more at most
+
+-- how many carriers may still be edited, where so many were met
+budget : ℕ → ℕ
+budget zero = 1
+budget (suc n) = 0
+
+module _ (sort : Chunk → Bool) (g : Chunk → Chunk) where
+  budget_less : (n : ℕ) (now : List Chunk) → budget (count_all sort n now) ≤ budget n
+  unfolding budget
+  budget_less n [] = omega arith
+  budget_less n (c ∷ now) = go (sort c) n (budget_less n now) (budget_less (suc n) now)
+    where
+      go : (t : Bool) (n : ℕ) → budget (count_all sort n now) ≤ budget n → budget (count_all sort (suc n) now) ≤ budget (suc n) → budget (count_all sort (cond t (suc n) n) now) ≤ budget n
+      go true n a b = omega (arith, b)
+      go false n a b = a
+
+  settle_few : (n : ℕ) (xs : List Cell) → Padded xs → Padded (settle_cells sort (first_becomes g) n xs) × (edited_in (settle_cells sort (first_becomes g) n xs) ≤ budget n + edited_in xs)
+  unfolding budget
+  settle_few n [] h = (tt, omega arith)
+  settle_few n (gap c ∷ xs) h = let r = settle_few n xs h.1 in ((h.0, r.0), r.1)
+  settle_few n (edited old now ∷ xs) h = let r = settle_few (count_all sort n now) xs h in (r.0, omega (arith, r.1, budget_less n now))
+  settle_few n (kept c ∷ xs) h = go (sort c) n (λ m. settle_few m xs h.1)
+    where
+      go : (t : Bool) (n : ℕ) → ((m : ℕ) → Padded (settle_cells sort (first_becomes g) m xs) × (edited_in (settle_cells sort (first_becomes g) m xs) ≤ budget m + edited_in xs))
+          → Padded (changed_cell (cond t (first_becomes g n c) leave) c ∷ settle_cells sort (first_becomes g) (cond t (suc n) n) xs) × (edited_in (changed_cell (cond t (first_becomes g n c) leave) c ∷ settle_cells sort (first_becomes g) (cond t (suc n) n) xs) ≤ budget n + edited_in xs)
+      go true zero again = let r = again 1 in (r.0, omega (arith, r.1))
+      go true (suc n) again = let r = again (suc (suc n)) in ((h.0, r.0), omega (arith, r.1))
+      go false n again = let r = again n in ((h.0, r.0), r.1)
+
+insert_few : (c : Chunk) (xs : List Cell) → Padded xs → Padded (insert_cell behind never c xs) × (edited_in (insert_cell behind never c xs) ≤ suc (edited_in xs))
+insert_few c [] h = (tt, omega arith)
+insert_few c (kept d ∷ xs) h = let r = insert_few c xs h.1 in ((h.0, r.0), r.1)
+insert_few c (gap d ∷ xs) h = go (only_gaps xs) (insert_few c xs h.1)
   where
-    go : (t : Bool) → Padded (first_cell udta g xs) × (edited_in (first_cell udta g xs) ≤ suc (edited_in xs))
-        → Padded (cond t (edited (c ∷ []) (g c ∷ []) ∷ xs) (kept c ∷ first_cell udta g xs)) × (edited_in (cond t (edited (c ∷ []) (g c ∷ []) ∷ xs) (kept c ∷ first_cell udta g xs)) ≤ suc (edited_in xs))
-    go true r = (h.1, omega arith)
+    go : (t : Bool) → Padded (insert_cell behind never c xs) × (edited_in (insert_cell behind never c xs) ≤ suc (edited_in xs))
+        → Padded (cond t (new_cell c ∷ (gap d ∷ xs)) (gap d ∷ insert_cell behind never c xs)) × (edited_in (cond t (new_cell c ∷ (gap d ∷ xs)) (gap d ∷ insert_cell behind never c xs)) ≤ suc (edited_in xs))
+    go true r = (h, omega arith)
     go false r = ((h.0, r.0), r.1)
-first_one g (edited old now ∷ xs) h = let r = first_one g xs h in (r.0, omega (arith, r.1))
+insert_few c (edited old now ∷ xs) h = let r = insert_few c xs h in rw (none_meets now) (r.0, omega (arith, r.1))
 
-last_one : (new : List Chunk) (xs : List Cell) → Padded xs → Padded (add_last new xs) × (edited_in (add_last new xs) ≤ suc (edited_in xs))
-last_one new [] h = (tt, omega arith)
-last_one new (x ∷ xs) h = go (only_gaps (x ∷ xs)) x h (λ k. last_one new xs k)
+carry_few : (sort : Chunk → Bool) (g : Chunk → Chunk) (new : Option Chunk) (xs : List Cell) → Padded xs → Padded (acted_cells (carry sort g new (flat_map live xs)) xs) × (edited_in (acted_cells (carry sort g new (flat_map live xs)) xs) ≤ suc (edited_in xs))
+unfolding budget
+carry_few sort g new xs h = go (list_any sort (flat_map live xs)) new
   where
-    go : (t : Bool) (x : Cell) → Padded (x ∷ xs) → (Padded xs → Padded (add_last new xs) × (edited_in (add_last new xs) ≤ suc (edited_in xs)))
-        → Padded (cond t (edited [] new ∷ (x ∷ xs)) (x ∷ add_last new xs)) × (edited_in (cond t (edited [] new ∷ (x ∷ xs)) (x ∷ add_last new xs)) ≤ suc (edited_in (x ∷ xs)))
-    go true x h again = (h, omega arith)
-    go false (kept c) h again = let r = again h.1 in ((h.0, r.0), r.1)
-    go false (gap c) h again = let r = again h.1 in ((h.0, r.0), r.1)
-    go false (edited old now) h again = let r = again h in (r.0, omega (arith, r.1))
+    go : (t : Bool) (m : Option Chunk) → Padded (acted_cells (carry_by sort g m t) xs) × (edited_in (acted_cells (carry_by sort g m t) xs) ≤ suc (edited_in xs))
+    go true m = let r = settle_few sort g 0 xs h in (r.0, omega (arith, r.1))
+    go false None = (h, omega arith)
+    go false (Some c) = insert_few c xs h
 
-new_one : (items : List Chunk) (xs : List Cell) → Padded xs → Padded (add_new items xs) × (edited_in (add_new items xs) ≤ suc (edited_in xs))
-new_one [] xs h = (h, omega arith)
-new_one (c ∷ cs) xs h = last_one (c ∷ cs) xs h
+user_few : (e : List (Item Value)) (xs : List Cell) → Padded xs → Padded (acted_cells (user_step e (flat_map live xs)) xs) × (edited_in (acted_cells (user_step e (flat_map live xs)) xs) ≤ suc (edited_in xs))
+user_few [] xs h = (h, omega arith)
+user_few (i ∷ e) xs h = carry_few is_user (edit_carrier udta user_items (i ∷ e)) (fresh udta (put_all user_items (i ∷ e) [])) xs h
 
-carried_one : (e : List (Item Value)) (xs : List Cell) → Padded xs → Padded (carried udta user_items e xs) × (edited_in (carried udta user_items e xs) ≤ suc (edited_in xs))
-carried_one [] xs h = (h, omega arith)
-carried_one (i ∷ e) xs h = go (has_carrier udta (flat_map live xs))
-  where
-    go : (t : Bool) → Padded (carry_by udta user_items (i ∷ e) xs t) × (edited_in (carry_by udta user_items (i ∷ e) xs t) ≤ suc (edited_in xs))
-    go true = first_one (edit_carrier udta user_items (i ∷ e)) xs h
-    go false = new_one (fresh udta (put_all user_items (i ∷ e) [])) xs h
+keys_few : (e : List (Item (List ℕ))) (xs : List Cell) → Padded xs → Padded (acted_cells (key_step e (flat_map live xs)) xs) × (edited_in (acted_cells (key_step e (flat_map live xs)) xs) ≤ suc (edited_in xs))
+keys_few [] xs h = (h, omega arith)
+keys_few (i ∷ e) xs h = carry_few is_meta (edit_meta (i ∷ e)) (new_meta (i ∷ e)) xs h
+
+carried_two : (e : Changes) (xs : List Cell) → Padded xs → Padded (carried (steps e) xs) × (edited_in (carried (steps e) xs) ≤ 2 + edited_in xs)
+carried_two e xs h =
+    let mid = acted_cells (user_step e.users (flat_map live xs)) xs in
+    let a = user_few e.users xs h in
+    let b = keys_few e.keys mid a.0 in
+    (b.0, omega (arith, a.1, b.1))
 
 grown_in : (more : List ℕ) (ps : List Piece) → units_in (grown more ps) ≡ units_in ps
 grown_in more [] = refl
@@ -165,7 +202,7 @@ module _ (o : List ℕ) (e : List EditItem) (bytes : IsBytes o) (sup : Supported
   abbrev m : Movie
   m = movie_of o
 
-  abbrev c : List (Item Value)
+  abbrev c : Changes
   c = changes o e
 
   abbrev ps : List Piece
@@ -187,32 +224,32 @@ module _ (o : List ℕ) (e : List EditItem) (bytes : IsBytes o) (sup : Supported
       go true = omega arith
       go false = one_size m.movie.form (length (spell_all m.before)) size
 
-  one_unit : units_in ps ≤ 1
-  one_unit =
+  two_units : units_in ps ≤ 2
+  two_units =
       let cells = map cell_of (kids o bytes sup) in
       let r = read_cells (kids o bytes sup) (kids_read o bytes sup).0 in
-      let k = carried_one c cells r.0 in
-      let few = few_units shut (carried udta user_items c cells) k.0 in
+      let k = carried_two c cells r.0 in
+      let few = few_units shut (carried (steps c) cells) k.0 in
       go (is_open m c) (omega (arith, few, k.1, r.1))
     where
-      go : (t : Bool) → units_in (pieces_of m c) ≤ 1 → units_in (cond t (grown (spell_all (gaps_of m.behind)) (pieces_of m c)) (pieces_of m c)) ≤ 1
+      go : (t : Bool) → units_in (pieces_of m c) ≤ 2 → units_in (cond t (grown (spell_all (gaps_of m.behind)) (pieces_of m c)) (pieces_of m c)) ≤ 2
       go true h = omega (arith, h, grown_in (spell_all (gaps_of m.behind)) (pieces_of m c))
       go false h = h
 
-  -- The size of moov and a unit are two at most.
-  pub patches_two : length (patches o e) ≤ 2
-  patches_two = omega (arith, length-append (moov_patch m size) us, moov_one, patches_many (fill ends) (kids_at m c) ps, one_unit)
+  -- The size of moov and two units are three at most.
+  pub patches_three : length (patches o e) ≤ 3
+  patches_three = omega (arith, length-append (moov_patch m size) us, moov_one, patches_many (fill ends) (kids_at m c) ps, two_units)
 
   module _ (room : Room o e) where
     abbrev rest : ℕ
-    rest = length (behind o e bytes sup room)
+    rest = length (rest_of o e bytes sup room)
 
     new_len : length (new_file o e) ≡ kids_at m c + (length (spell_all (lay (fill ends) ps)) + rest)
     new_len =
         let b = spell_all m.before in
         let head = header_bytes m.movie.form m.movie.id size in
         let y = spell_all (lay (fill ends) ps) in
-        omega (arith, ap length (new_is o e bytes sup room), length-append (b ++ head) (y ++ behind o e bytes sup room), length-append b head, length-append y (behind o e bytes sup room), header_len m.movie.form m.movie.id (length m.movie.body) size)
+        omega (arith, ap length (new_is o e bytes sup room), length-append (b ++ head) (y ++ rest_of o e bytes sup room), length-append b head, length-append y (rest_of o e bytes sup room), header_len m.movie.form m.movie.id (length m.movie.body) size)
 
     head_at : kids_at m c ≡ length (spell_all m.before) + length (header_bytes m.movie.form (codes "moov") size)
     head_at = omega (arith, header_len m.movie.form m.movie.id (length m.movie.body) size, ap (λ (i : List ℕ). length (header_bytes m.movie.form i size)) sup.movie.is_moov)

@@ -1,20 +1,26 @@
 -- To relocate the tables in the old file and then to lay the edit gives the new file.
-use Rattle.std.proofs.Common.{Bool, List, [], ap, append_assoc, cond, false, leb, length, map, refl, sym, true, ℕ, ◌++◌, ◌+◌, ◌∙◌, ◌∷◌, ◌≡◌}
-use Rattle.std.specs.Prelude.{codes, not, ◌&&◌, ◌||◌}
+use Rattle.std.proofs.Common.{Bool, List, None, Option, Some, suc, zero, [], ap, append_assoc, cond, false, leb, length, map, refl, sym, true, ℕ, ◌++◌, ◌+◌, ◌∙◌, ◌∷◌, ◌≡◌}
+use Rattle.std.specs.Prelude.{IfSome, codes, not, ◌&&◌, ◌||◌}
 use Rattle.std.proofs.lemmas.List.{append-nil}
 use Rattle.std.proofs.lemmas.List.Concat.{flat_map-append}
-use Rattle.std.specs.List.{AllByRecursion, flat_map}
+use Rattle.std.specs.List.{AllByRecursion, flat_map, list_any}
 use Rattle.part_tree.specs.declared.field.Value.{Value}
 use Rattle.container_model.proofs.Deep.{Alike, alike_len}
 use Rattle.container_model.proofs.Units.{BringsPad, spell_all-append}
 use Rattle.container_model.specs.Chunk.{Chunk, spell, spell_all}
 use Rattle.container_model.specs.Cuts.{changed_piece}
 use Rattle.container_model.specs.Items.{Item, edit_carrier, put_all}
-use Rattle.container_model.specs.Units.{Cell, Piece, Slot, begun, closed, copied, cuts, edited, gap, is_empty, kept, kept_next, lacks_pad, lay, old_bytes, padded, replaced, shut, unit_bytes, units, was}
+use Rattle.container_model.specs.Units.{Cell, Piece, Slot, begun, closed, copied, cuts, edited, gap, is_empty, kept, kept_next, lacks_pad, lay, live, old_bytes, padded, replaced, shut, unit_bytes, units, was}
 use Rattle.carrier_model.proofs.Fitted.{LastOnly}
 use Rattle.mov_model.specs.Atoms.{cell_by, cell_of, is_padding}
 use Rattle.container_model.specs.Atoms.{atom, is}
-use Rattle.mov_model.specs.Carried.{add_last, add_new, carried, carry_by, first_cell, fresh, has_carrier, only_gaps}
+use Rattle.carrier_model.specs.Cells.{acted_cells, behind, changed, changed_cell, count_all, insert_cell, leave, never, only_gaps, settle, settle_cells, some_meets}
+use Rattle.carrier_model.specs.Steps.{carried}
+use Rattle.mov_model.specs.Carried.{Changes, carry, carry_by, first_becomes, fresh, key_step, steps, user_step}
+use Rattle.mov_model.specs.Keys.{edit_meta, is_meta, new_meta}
+use Rattle.mov_model.proofs.Carry.{Edits, Fresh, Sort, none_meets}
+use Rattle.mov_model.proofs.Cells.{is_user, meta_edits, meta_fresh, meta_sort, user_edits, user_fresh, user_sort}
+use Rattle.std.specs.Str.{bytes_eq}
 use Rattle.mov_model.specs.New.{ends_open, fill, grown, hanging, padding}
 use Rattle.qt_text.specs.User.{udta, user_items}
 
@@ -158,9 +164,9 @@ module _ (g : Chunk → Chunk) where
   -- ---- the cells of an edit
 
   module _ (same : (c : Chunk) → is c (codes "trak") ≡ false → g c ≡ c) where
-    fixed_first : (e : List (Item Value)) (cs : List Chunk) → AllByRecursion (λ c. (lacks_pad c ≡ false) × Alike c (g c)) cs → FixedCells (map cell_of cs) × FixedCells (first_cell udta (edit_carrier udta user_items e) (map cell_of cs))
-    fixed_first e [] h = (tt, tt)
-    fixed_first e (c ∷ cs) h = go (is_padding c.id) refl (fixed_first e cs h.1)
+    fixed_read : (cs : List Chunk) → AllByRecursion (λ c. (lacks_pad c ≡ false) × Alike c (g c)) cs → FixedCells (map cell_of cs)
+    fixed_read [] h = tt
+    fixed_read (c ∷ cs) h = go (is_padding c.id) refl (fixed_read cs h.1)
       where
         no_track : is_padding c.id ≡ true → is c (codes "trak") ≡ false
         no_track p = away (is c (codes "trak")) refl
@@ -169,39 +175,69 @@ module _ (g : Chunk → Chunk) where
             away true i = let no : is_padding c.id ≡ false = rw (Rattle.container_model.proofs.Items.same_true c.id (codes "trak") i) refl in absurd cc
             away false i = refl
 
-        here : (t : Bool) → udta.is c ≡ t → FixedCells (map cell_of cs) × FixedCells (first_cell udta (edit_carrier udta user_items e) (map cell_of cs))
-            → FixedCells (cond t (edited (c ∷ []) (edit_carrier udta user_items e c ∷ []) ∷ map cell_of cs) (kept c ∷ first_cell udta (edit_carrier udta user_items e) (map cell_of cs)))
-        here true u again =
-            let one : is c (codes "trak") ≡ false = rw (Rattle.container_model.proofs.Items.same_true c.id (codes "udta") u) refl in
-            (ap (λ (x : Chunk). x ∷ []) (same c one), ap (λ (x : Chunk). x ∷ []) (same (edit_carrier udta user_items e c) one), again.0)
-        here false u again = (h.0.0, h.0.1, again.1)
+        go : (t : Bool) → is_padding c.id ≡ t → FixedCells (map cell_of cs) → FixedCells (cell_by c t ∷ map cell_of cs)
+        go true p again = (h.0.0, same c (no_track p), again)
+        go false p again = (h.0.0, h.0.1, again)
 
-        go : (t : Bool) → is_padding c.id ≡ t → FixedCells (map cell_of cs) × FixedCells (first_cell udta (edit_carrier udta user_items e) (map cell_of cs))
-            → FixedCells (cell_by c t ∷ map cell_of cs) × FixedCells (first_cell udta (edit_carrier udta user_items e) (cell_by c t ∷ map cell_of cs))
-        go true p again = ((h.0.0, same c (no_track p), again.0), (h.0.0, same c (no_track p), again.1))
-        go false p again = ((h.0.0, h.0.1, again.0), here (udta.is c) refl again)
+    head_same : (c : Chunk) (cs : List Chunk) → map g (c ∷ cs) ≡ c ∷ cs → g c ≡ c
+    head_same c cs e = ap (λ (ds : List Chunk). elim ds [ [] ↦ c | d ∷ more ↦ d ]) e
 
-    fixed_tail : (x : Cell) (xs ys : List Cell) → FixedCells (x ∷ xs) → (FixedCells xs → FixedCells ys) → FixedCells (x ∷ ys)
-    fixed_tail (kept c) xs ys h f = (h.0, h.1, f h.2)
-    fixed_tail (gap c) xs ys h f = (h.0, h.1, f h.2)
-    fixed_tail (edited old now) xs ys h f = (h.0, h.1, f h.2)
+    tail_same : (c : Chunk) (cs : List Chunk) → map g (c ∷ cs) ≡ c ∷ cs → map g cs ≡ cs
+    tail_same c cs e = ap (λ (ds : List Chunk). elim ds [ [] ↦ cs | d ∷ more ↦ more ]) e
 
-    fixed_add : (new : List Chunk) (xs : List Cell) → map g new ≡ new → FixedCells xs → FixedCells (add_last new xs)
-    fixed_add new [] n h = (refl, n, tt)
-    fixed_add new (x ∷ xs) n h = go (only_gaps (x ∷ xs)) (fixed_add new xs n)
+    -- ---- the first carrier is edited
+
+    module _ (sort : Chunk → Bool) (h : Chunk → Chunk) (kept_same : (c : Chunk) → sort c ≡ true → (g c ≡ c) × (g (h c) ≡ h c)) where
+      fixed_now : (n : ℕ) (now : List Chunk) → map g now ≡ now → map g (settle sort (first_becomes h) n now) ≡ settle sort (first_becomes h) n now
+      fixed_now n [] e = refl
+      fixed_now n (c ∷ now) e = go (sort c) refl n (fixed_now (suc n) now (tail_same c now e)) (fixed_now n now (tail_same c now e))
+        where
+          go : (t : Bool) → sort c ≡ t → (n : ℕ) → map g (settle sort (first_becomes h) (suc n) now) ≡ settle sort (first_becomes h) (suc n) now → map g (settle sort (first_becomes h) n now) ≡ settle sort (first_becomes h) n now
+              → map g (changed (cond t (first_becomes h n c) leave) c ++ settle sort (first_becomes h) (cond t (suc n) n) now) ≡ changed (cond t (first_becomes h n c) leave) c ++ settle sort (first_becomes h) (cond t (suc n) n) now
+          go true u zero more again = rw ((kept_same c u).1, more) refl
+          go true u (suc n) more again = rw ((kept_same c u).0, more) refl
+          go false u n more again = rw (head_same c now e, again) refl
+
+      fixed_settle : (n : ℕ) (xs : List Cell) → FixedCells xs → FixedCells (settle_cells sort (first_becomes h) n xs)
+      fixed_settle n [] f = tt
+      fixed_settle n (gap c ∷ xs) f = (f.0, f.1, fixed_settle n xs f.2)
+      fixed_settle n (edited old now ∷ xs) f = (f.0, fixed_now n now f.1, fixed_settle (count_all sort n now) xs f.2)
+      fixed_settle n (kept c ∷ xs) f = go (sort c) refl n (λ m. fixed_settle m xs f.2)
+        where
+          go : (t : Bool) → sort c ≡ t → (n : ℕ) → ((m : ℕ) → FixedCells (settle_cells sort (first_becomes h) m xs)) → FixedCells (changed_cell (cond t (first_becomes h n c) leave) c ∷ settle_cells sort (first_becomes h) (cond t (suc n) n) xs)
+          go true u zero again = (ap (λ (x : Chunk). x ∷ []) (kept_same c u).0, ap (λ (x : Chunk). x ∷ []) (kept_same c u).1, again 1)
+          go true u (suc n) again = (f.0, f.1, again (suc (suc n)))
+          go false u n again = (f.0, f.1, again n)
+
+    -- ---- a new one is put last
+
+    fixed_insert : (c : Chunk) → g c ≡ c → (xs : List Cell) → FixedCells xs → FixedCells (insert_cell behind never c xs)
+    fixed_insert c e [] f = (refl, ap (λ (x : Chunk). x ∷ []) e, tt)
+    fixed_insert c e (kept d ∷ xs) f = (f.0, f.1, fixed_insert c e xs f.2)
+    fixed_insert c e (gap d ∷ xs) f = go (only_gaps xs) (fixed_insert c e xs f.2)
       where
-        go : (t : Bool) → (FixedCells xs → FixedCells (add_last new xs)) → FixedCells (cond t (edited [] new ∷ (x ∷ xs)) (x ∷ add_last new xs))
-        go true again = (refl, n, h)
-        go false again = fixed_tail x xs (add_last new xs) h again
+        go : (t : Bool) → FixedCells (insert_cell behind never c xs) → FixedCells (cond t (Rattle.carrier_model.specs.Cells.new_cell c ∷ (gap d ∷ xs)) (gap d ∷ insert_cell behind never c xs))
+        go true again = (refl, ap (λ (x : Chunk). x ∷ []) e, f)
+        go false again = (f.0, f.1, again)
+    fixed_insert c e (edited old now ∷ xs) f = rw (none_meets now) (f.0, f.1, fixed_insert c e xs f.2)
 
-    fixed_new : (items : List Chunk) (xs : List Cell) → FixedCells xs → FixedCells (add_new (fresh udta items) xs)
-    fixed_new [] xs h = h
-    fixed_new (c ∷ cs) xs h = fixed_add (fresh udta (c ∷ cs)) xs (ap (λ (x : Chunk). x ∷ []) (same (udta.fresh (c ∷ cs)) refl)) h
-
-    pub fixed_carried : (e : List (Item Value)) (cs : List Chunk) → AllByRecursion (λ c. (lacks_pad c ≡ false) × Alike c (g c)) cs → FixedCells (carried udta user_items e (map cell_of cs))
-    fixed_carried [] cs h = (fixed_first [] cs h).0
-    fixed_carried (i ∷ e) cs h = go (has_carrier udta (flat_map Rattle.container_model.specs.Units.live (map cell_of cs)))
+    fixed_carry : (sort : Chunk → Bool) (h : Chunk → Chunk) (new : Option Chunk) → Sort sort → Edits h → IfSome new Fresh → (xs : List Cell) → FixedCells xs → FixedCells (acted_cells (carry sort h new (flat_map live xs)) xs)
+    fixed_carry sort h new s k n xs f = go (list_any sort (flat_map live xs)) new n
       where
-        go : (t : Bool) → FixedCells (carry_by udta user_items (i ∷ e) (map cell_of cs) t)
-        go true = (fixed_first (i ∷ e) cs h).1
-        go false = fixed_new (put_all user_items (i ∷ e) []) (map cell_of cs) (fixed_first [] cs h).0
+        go : (t : Bool) (m : Option Chunk) → IfSome m Fresh → FixedCells (acted_cells (carry_by sort h m t) xs)
+        go true m n = fixed_settle sort h (λ c u. (same c (s.no_track c u), same (h c) (ap (λ (x : List ℕ). bytes_eq x (codes "trak")) (k.same_id c) ∙ s.no_track c u))) 0 xs f
+        go false None n = f
+        go false (Some c) n = fixed_insert c (same c n.no_track) xs f
+
+    fixed_user : (e : List (Item Value)) (xs : List Cell) → FixedCells xs → FixedCells (acted_cells (user_step e (flat_map live xs)) xs)
+    fixed_user [] xs f = f
+    fixed_user (i ∷ e) xs f = fixed_carry is_user (edit_carrier udta user_items (i ∷ e)) (fresh udta (put_all user_items (i ∷ e) [])) user_sort (user_edits (i ∷ e)) (user_fresh (put_all user_items (i ∷ e) [])) xs f
+
+    fixed_keys : (e : List (Item (List ℕ))) (xs : List Cell) → FixedCells xs → FixedCells (acted_cells (key_step e (flat_map live xs)) xs)
+    fixed_keys [] xs f = f
+    fixed_keys (i ∷ e) xs f = fixed_carry is_meta (edit_meta (i ∷ e)) (new_meta (i ∷ e)) meta_sort (meta_edits (i ∷ e)) (meta_fresh (i ∷ e)) xs f
+
+    pub fixed_carried : (e : Changes) (cs : List Chunk) → AllByRecursion (λ c. (lacks_pad c ≡ false) × Alike c (g c)) cs → FixedCells (carried (steps e) (map cell_of cs))
+    fixed_carried e cs h =
+        let mid = acted_cells (user_step e.users (flat_map live (map cell_of cs))) (map cell_of cs) in
+        fixed_keys e.keys mid (fixed_user e.users (map cell_of cs) (fixed_read cs h))

@@ -4,7 +4,6 @@ use Rattle.std.specs.Prelude.{codes, ◌&&◌}
 use Rattle.std.proofs.lemmas.Bool.{le-ltb}
 use Rattle.std.proofs.lemmas.List.{append-nil, drop_at, length-append, take_at}
 use Rattle.std.specs.List.{AllByRecursion, flat_map}
-use Rattle.part_tree.specs.declared.field.Value.{Value}
 use Rattle.container_model.proofs.Codec.{IsBytes}
 use Rattle.container_model.proofs.Deep.{Alike, all_len}
 use Rattle.container_model.proofs.Read.{Atom}
@@ -12,7 +11,7 @@ use Rattle.container_model.proofs.Units.{From, cuts_from, lay_splices, spell_all
 use Rattle.container_model.specs.Chunk.{Chunk, header_bytes, spell_all}
 use Rattle.container_model.specs.Deep.{Whole}
 use Rattle.container_model.specs.Cuts.{changed_piece}
-use Rattle.container_model.specs.Items.{Item, is_nil}
+use Rattle.container_model.specs.Items.{is_nil}
 use Rattle.container_model.specs.Sizes.{inside}
 use Rattle.container_model.specs.Splice.{Cut, shift, splice, splice_from}
 use Rattle.container_model.specs.Units.{Piece, cuts, lacks_pad, lay, old_bytes, shut}
@@ -26,15 +25,15 @@ use Rattle.mov_model.proofs.Spans.{around, last, open_left}
 use Rattle.mov_model.proofs.Tables.{relocated_alike, relocated_other}
 use Rattle.mov_model.specs.Atoms.{cell_of, format, moov}
 use Rattle.container_model.specs.Atoms.{atom, atoms_in}
-use Rattle.mov_model.specs.Carried.{carried}
+use Rattle.carrier_model.specs.Steps.{carried}
+use Rattle.mov_model.specs.Carried.{Changes, steps}
 use Rattle.mov_model.specs.Movie.{Movie, all_atoms, movie_of, spell_movie}
 use Rattle.mov_model.specs.New.{edit_cuts, ends_file, ends_open, fill, gaps_of, grown, hanging, is_open, kids_at, edited_file, new_kids, new_movie, overlaid, padding_behind, pieces_of, rest_behind, whole_pieces, with_size}
 use Rattle.mov_model.specs.Pieces.{held}
 use Rattle.mov_model.specs.Support.{Supported}
 use Rattle.mov_model.specs.Tables.{relocated}
-use Rattle.qt_text.specs.User.{udta, user_items}
 
-module _ (m : Movie) (e : List (Item Value)) (joined : spell_all (atoms_in m.movie).chunks ++ (atoms_in m.movie).left ≡ m.movie.body) (no_pad : m.movie.pad ≡ [])
+module _ (m : Movie) (e : Changes) (joined : spell_all (atoms_in m.movie).chunks ++ (atoms_in m.movie).left ≡ m.movie.body) (no_pad : m.movie.pad ≡ [])
     (fine : AllByRecursion (λ c. (lacks_pad c ≡ false) × Alike c (relocated (shift (edit_cuts m e)) c)) (atoms_in m.movie).chunks) where
   abbrev pub g : Chunk → Chunk
   g = relocated (shift (edit_cuts m e))
@@ -46,7 +45,7 @@ module _ (m : Movie) (e : List (Item Value)) (joined : spell_all (atoms_in m.mov
   ps = pieces_of m e
 
   fixed : Fixed g ps
-  fixed = fixed_units g shut (carried udta user_items e (map cell_of (atoms_in m.movie).chunks)) tt (fixed_carried g (λ c n. relocated_other (shift (edit_cuts m e)) c n) e (atoms_in m.movie).chunks fine)
+  fixed = fixed_units g shut (carried (steps e) (map cell_of (atoms_in m.movie).chunks)) tt (fixed_carried g (λ c n. relocated_other (shift (edit_cuts m e)) c n) e (atoms_in m.movie).chunks fine)
 
   fixed_whole : Fixed g (whole_pieces m e)
   fixed_whole = go (is_open m e)
@@ -58,7 +57,7 @@ module _ (m : Movie) (e : List (Item Value)) (joined : spell_all (atoms_in m.mov
   kept_are : flat_map old_bytes (map (changed_piece g) ps) ≡ spell_all (map g (atoms_in m.movie).chunks)
   kept_are =
       let xs = map cell_of (atoms_in m.movie).chunks in
-      changed_old g shut (carried udta user_items e xs) (fixed_carried g (λ c n. relocated_other (shift (edit_cuts m e)) c n) e (atoms_in m.movie).chunks fine)
+      changed_old g shut (carried (steps e) xs) (fixed_carried g (λ c n. relocated_other (shift (edit_cuts m e)) c n) e (atoms_in m.movie).chunks fine)
       ∙ ap (λ (cs : List Chunk). spell_all (map g cs)) (was_carried e xs ∙ was_read (atoms_in m.movie).chunks)
 
   lay_is : (f : Bool) → lay (fill f) (map (changed_piece g) ps) ≡ map g (lay (fill f) ps)
@@ -161,14 +160,14 @@ pub kids_all : (f : ℕ → ℕ) (cs : List Chunk) → AllByRecursion (Atom insi
 kids_all f [] a w b = tt
 kids_all f (c ∷ cs) a w b = ((le-ltb _ _ (omega (arith, a.0.pad_none)), relocated_alike f c w.0 b.0), kids_all f cs a.1 w.1 b.1)
 
-pub overlay_law : (o : List ℕ) (e : List (Item Value)) → IsBytes o → Supported o
+pub overlay_law : (o : List ℕ) (e : Changes) → IsBytes o → Supported o
     → edited_file o e ≡ with_size (movie_of o) (length (new_movie (movie_of o) e).movie.body) (splice (spell_movie (overlaid (movie_of o) e)) (edit_cuts (movie_of o) e))
 unfolding edited_file
 overlay_law o e bytes sup =
     new_is_overlaid (movie_of o) e (kids_joined o bytes sup) (moov_padless o bytes sup)
     (kids_all (shift (edit_cuts (movie_of o) e)) (kids o bytes sup) (kids_read o bytes sup).0 (whole_kids (kids o bytes sup) sup.movie.tracks_end) (kids_bytes o bytes sup))
 
-pub splice_law : (o : List ℕ) (e : List (Item Value)) → IsBytes o → Supported o
+pub splice_law : (o : List ℕ) (e : Changes) → IsBytes o → Supported o
     → spell_movie (Rattle.mov_model.specs.New.laid_movie (movie_of o) e) ≡ with_size (movie_of o) (length (Rattle.mov_model.specs.New.laid_movie (movie_of o) e).movie.body) (splice o (edit_cuts (movie_of o) e))
 splice_law o e bytes sup =
     Rattle.mov_model.proofs.Spans.laid_is_spliced (movie_of o) e (kids_joined o bytes sup) (moov_padless o bytes sup)

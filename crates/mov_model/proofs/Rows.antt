@@ -4,12 +4,14 @@ use Rattle.std.specs.Prelude.{codes}
 use Rattle.part_tree.specs.Letters.{four}
 use Rattle.part_tree.specs.declared.field.Change.TheVariants.{Set}
 use Rattle.part_tree.specs.declared.field.EditItem.{EditItem}
-use Rattle.part_tree.specs.declared.field.FieldName.TheVariants.{User}
+use Rattle.part_tree.specs.declared.field.FieldName.TheVariants.{Key, User}
 use Rattle.container_model.specs.Chunk.{read, chunks}
 use Rattle.container_model.specs.Units.{units}
 use Rattle.container_model.specs.Deep.{mend, leaves}
 use Rattle.container_model.specs.Walk.{walk}
 use Rattle.mov_model.specs.New.{edited_file}
+use Rattle.qt_keys.specs.Read.{key_table}
+use Rattle.qt_keys.specs.Short.{each}
 use Rattle.mov_model.specs.Edited.{fields, new_file}
 use Rattle.mov_model.specs.Large.{too_large}
 use Rattle.carrier_model.specs.Room.{patch}
@@ -182,3 +184,34 @@ fine_reel_named = refl
 fine_two_moved : why two_moved ≡ None
 unfolding read chunks walk leaves
 fine_two_moved = refl
+
+-- ---- keys
+
+-- the edit that sets a key
+abbrev set_key : List ℕ → List EditItem
+set_key text = record { name = Key (codes "a"); change = Set text } ∷ []
+
+-- the movie with a new key table: its `meta` of 100 bytes stands behind the user data and takes the place of the padding
+abbrev reel_keyed : List ℕ
+reel_keyed = 0 ∷ 0 ∷ 0 ∷ 20 ∷ 102 ∷ 116 ∷ 121 ∷ 112 ∷ 113 ∷ 116 ∷ 32 ∷ 32 ∷ 0 ∷ 0 ∷ 0 ∷ 0 ∷ 113 ∷ 116 ∷ 32 ∷ 32 ∷ 0 ∷ 0 ∷ 0 ∷ 236 ∷ 109 ∷ 111 ∷ 111 ∷ 118 ∷ 0 ∷ 0 ∷ 0 ∷ 104 ∷ 116 ∷ 114 ∷ 97 ∷ 107 ∷ 0 ∷ 0 ∷ 0 ∷ 96 ∷ 109 ∷ 100 ∷ 105 ∷ 97 ∷ 0 ∷ 0 ∷ 0 ∷ 88 ∷ 109 ∷ 105 ∷ 110 ∷ 102 ∷ 0 ∷ 0 ∷ 0 ∷ 80 ∷ 115 ∷ 116 ∷ 98 ∷ 108 ∷ 0 ∷ 0 ∷ 0 ∷ 28 ∷ 115 ∷ 116 ∷ 115 ∷ 99 ∷ 0 ∷ 0 ∷ 0 ∷ 0 ∷ 0 ∷ 0 ∷ 0 ∷ 1 ∷ 0 ∷ 0 ∷ 0 ∷ 1 ∷ 0 ∷ 0 ∷ 0 ∷ 1 ∷ 0 ∷ 0 ∷ 0 ∷ 1 ∷ 0 ∷ 0 ∷ 0 ∷ 20 ∷ 115 ∷ 116 ∷ 115 ∷ 122 ∷ 0 ∷ 0 ∷ 0 ∷ 0 ∷ 0 ∷ 0 ∷ 0 ∷ 8 ∷ 0 ∷ 0 ∷ 0 ∷ 2 ∷ 0 ∷ 0 ∷ 0 ∷ 24 ∷ 115 ∷ 116 ∷ 99 ∷ 111 ∷ 0 ∷ 0 ∷ 0 ∷ 0 ∷ 0 ∷ 0 ∷ 0 ∷ 2 ∷ 0 ∷ 0 ∷ 1 ∷ 8 ∷ 0 ∷ 0 ∷ 1 ∷ 16 ∷ 0 ∷ 0 ∷ 0 ∷ 24 ∷ 117 ∷ 100 ∷ 116 ∷ 97 ∷ 0 ∷ 0 ∷ 0 ∷ 16 ∷ 169 ∷ 110 ∷ 97 ∷ 109 ∷ 0 ∷ 4 ∷ 21 ∷ 199 ∷ 82 ∷ 101 ∷ 101 ∷ 108 ∷ 0 ∷ 0 ∷ 0 ∷ 100 ∷ 109 ∷ 101 ∷ 116 ∷ 97 ∷ 0 ∷ 0 ∷ 0 ∷ 33 ∷ 104 ∷ 100 ∷ 108 ∷ 114 ∷ 0 ∷ 0 ∷ 0 ∷ 0 ∷ 0 ∷ 0 ∷ 0 ∷ 0 ∷ 109 ∷ 100 ∷ 116 ∷ 97 ∷ 0 ∷ 0 ∷ 0 ∷ 0 ∷ 0 ∷ 0 ∷ 0 ∷ 0 ∷ 0 ∷ 0 ∷ 0 ∷ 0 ∷ 0 ∷ 0 ∷ 0 ∷ 0 ∷ 25 ∷ 107 ∷ 101 ∷ 121 ∷ 115 ∷ 0 ∷ 0 ∷ 0 ∷ 0 ∷ 0 ∷ 0 ∷ 0 ∷ 1 ∷ 0 ∷ 0 ∷ 0 ∷ 9 ∷ 109 ∷ 100 ∷ 116 ∷ 97 ∷ 97 ∷ 0 ∷ 0 ∷ 0 ∷ 34 ∷ 105 ∷ 108 ∷ 115 ∷ 116 ∷ 0 ∷ 0 ∷ 0 ∷ 26 ∷ 0 ∷ 0 ∷ 0 ∷ 1 ∷ 0 ∷ 0 ∷ 0 ∷ 18 ∷ 100 ∷ 97 ∷ 116 ∷ 97 ∷ 0 ∷ 0 ∷ 0 ∷ 1 ∷ 0 ∷ 0 ∷ 0 ∷ 0 ∷ 72 ∷ 105 ∷ 0 ∷ 0 ∷ 0 ∷ 24 ∷ 109 ∷ 100 ∷ 97 ∷ 116 ∷ 0 ∷ 0 ∷ 0 ∷ 0 ∷ 0 ∷ 0 ∷ 0 ∷ 0 ∷ 0 ∷ 0 ∷ 0 ∷ 0 ∷ 0 ∷ 0 ∷ 0 ∷ 1 ∷ []
+
+keyed : new_file reel (set_key (codes "Hi")) ≡ reel_keyed
+unfolding edited_file units chunks read mend leaves walk key_table each
+keyed = refl
+
+keyed_rewrites : has_room reel (set_key (codes "Hi")) ≡ false
+unfolding edited_file units chunks read mend key_table each
+keyed_rewrites = refl
+
+its_key : fields reel_keyed (Key (codes "a")) ≡ record { lang = 0; raw = 0 ∷ 0 ∷ 0 ∷ 1 ∷ 0 ∷ 0 ∷ 0 ∷ 0 ∷ codes "Hi" } ∷ []
+unfolding edited_file units chunks read mend key_table each
+its_key = refl
+
+-- another text of the same length is written in place, as one patch over the key table
+keyed_in_place : patches reel_keyed (set_key (codes "Ho")) ≡ patch 156 (0 ∷ 0 ∷ 0 ∷ 100 ∷ 109 ∷ 101 ∷ 116 ∷ 97 ∷ 0 ∷ 0 ∷ 0 ∷ 33 ∷ 104 ∷ 100 ∷ 108 ∷ 114 ∷ 0 ∷ 0 ∷ 0 ∷ 0 ∷ 0 ∷ 0 ∷ 0 ∷ 0 ∷ 109 ∷ 100 ∷ 116 ∷ 97 ∷ 0 ∷ 0 ∷ 0 ∷ 0 ∷ 0 ∷ 0 ∷ 0 ∷ 0 ∷ 0 ∷ 0 ∷ 0 ∷ 0 ∷ 0 ∷ 0 ∷ 0 ∷ 0 ∷ 25 ∷ 107 ∷ 101 ∷ 121 ∷ 115 ∷ 0 ∷ 0 ∷ 0 ∷ 0 ∷ 0 ∷ 0 ∷ 0 ∷ 1 ∷ 0 ∷ 0 ∷ 0 ∷ 9 ∷ 109 ∷ 100 ∷ 116 ∷ 97 ∷ 97 ∷ 0 ∷ 0 ∷ 0 ∷ 34 ∷ 105 ∷ 108 ∷ 115 ∷ 116 ∷ 0 ∷ 0 ∷ 0 ∷ 26 ∷ 0 ∷ 0 ∷ 0 ∷ 1 ∷ 0 ∷ 0 ∷ 0 ∷ 18 ∷ 100 ∷ 97 ∷ 116 ∷ 97 ∷ 0 ∷ 0 ∷ 0 ∷ 1 ∷ 0 ∷ 0 ∷ 0 ∷ 0 ∷ 72 ∷ 111 ∷ [])
+unfolding edited_file units chunks read mend leaves walk key_table each
+keyed_in_place = refl
+
+key_has_room : has_room reel_keyed (set_key (codes "Ho")) ≡ true
+unfolding edited_file units chunks read mend leaves walk key_table each
+key_has_room = refl

@@ -4,10 +4,9 @@ use Rattle.std.specs.Prelude.{◌&&◌}
 use Rattle.std.proofs.lemmas.Bool.{and_parts}
 use Rattle.std.proofs.lemmas.List.{append-nil, drop_at, length-append, take_at}
 use Rattle.std.specs.List.{flat_map}
-use Rattle.part_tree.specs.declared.field.Value.{Value}
 use Rattle.container_model.proofs.Units.{From, cuts_from, lay_splices, spell_all-append, splice_past, units_old}
 use Rattle.container_model.specs.Chunk.{Chunk, header_bytes, spell_all}
-use Rattle.container_model.specs.Items.{Item, is_nil}
+use Rattle.container_model.specs.Items.{is_nil}
 use Rattle.container_model.specs.Splice.{splice, splice_from}
 use Rattle.container_model.specs.Units.{lay, old_bytes, shut}
 use Rattle.mov_model.proofs.Cells.{was_carried, was_read}
@@ -16,30 +15,30 @@ use Rattle.carrier_model.proofs.Fitted.{LastOnly, last_units}
 use Rattle.mov_model.proofs.Laid.{grown_bytes, grown_laid}
 use Rattle.mov_model.specs.Atoms.{cell_of}
 use Rattle.container_model.specs.Atoms.{atoms_in}
-use Rattle.mov_model.specs.Carried.{carried}
+use Rattle.carrier_model.specs.Steps.{carried}
+use Rattle.mov_model.specs.Carried.{Changes, steps}
 use Rattle.mov_model.specs.Movie.{Movie, spell_movie}
 use Rattle.mov_model.specs.New.{edit_cuts, ends_file, fill, gaps_of, grown, hanging, is_open, kids_at, laid_kids, laid_movie, padding_behind, pieces_of, rest_behind, slot_behind, whole_pieces, with_size}
-use Rattle.qt_text.specs.User.{udta, user_items}
 
 nil_is : (x : List ℕ) → is_nil x ≡ true → x ≡ []
 nil_is [] e = refl
 nil_is (y ∷ x) e = absurd cc
 
-module _ (m : Movie) (e : List (Item Value)) (joined : spell_all (atoms_in m.movie).chunks ++ (atoms_in m.movie).left ≡ m.movie.body) (no_pad : m.movie.pad ≡ []) where
+module _ (m : Movie) (e : Changes) (joined : spell_all (atoms_in m.movie).chunks ++ (atoms_in m.movie).left ≡ m.movie.body) (no_pad : m.movie.pad ≡ []) where
   abbrev pub left : List ℕ
   left = (atoms_in m.movie).left
 
   kept_are : flat_map old_bytes (pieces_of m e) ≡ spell_all (atoms_in m.movie).chunks
   kept_are =
       let xs = map cell_of (atoms_in m.movie).chunks in
-      units_old shut (carried udta user_items e xs) ∙ ap spell_all (was_carried e xs ∙ was_read (atoms_in m.movie).chunks)
+      units_old shut (carried (steps e) xs) ∙ ap spell_all (was_carried e xs ∙ was_read (atoms_in m.movie).chunks)
 
   -- what stands behind the pieces
   abbrev pub behind_pieces : List ℕ
   behind_pieces = cond (is_open m e) [] left ++ (spell_all (rest_behind m e) ++ m.left)
 
   pub last : LastOnly (pieces_of m e)
-  last = last_units shut (carried udta user_items e (map cell_of (atoms_in m.movie).chunks))
+  last = last_units shut (carried (steps e) (map cell_of (atoms_in m.movie).chunks))
 
   pub open_left : is_open m e ≡ true → left ≡ []
   open_left o = nil_is left (and_parts (is_nil left) (Rattle.mov_model.specs.New.ends_open (pieces_of m e)) o).0

@@ -5,10 +5,9 @@ use Rattle.std.specs.List.{flat_map, AllByRecursion}
 use Rattle.std.proofs.lemmas.List.{take-append-drop}
 use Rattle.me_bytes.specs.Bytes.{IsBytes}
 use Rattle.part_tree.specs.declared.field.EditItem.{EditItem}
-use Rattle.part_tree.specs.declared.field.Value.{Value}
 use Rattle.container_model.specs.Chunk.{short, long, pad_len, Chunk}
 use Rattle.container_model.specs.Deep.{Whole, Leaf, leaves_at, leaves}
-use Rattle.container_model.specs.Items.{Item, put_all, edit_carrier}
+use Rattle.container_model.specs.Items.{put_all, edit_carrier}
 use Rattle.container_model.specs.Rows.{Width, be32, be64}
 use Rattle.container_model.specs.Sizes.{inside}
 use Rattle.container_model.specs.Splice.{splice, shift}
@@ -26,7 +25,8 @@ use Rattle.container_model.specs.Atoms.{is, atoms_in}
 use Rattle.qt_text.specs.User.{user_items, udta}
 use Rattle.mov_model.specs.Tables.{moved_leaf, relocated, in_stbl, tables}
 use Rattle.sample_tables.specs.Tables.{count, rows, with_rows, places_in, moved_body, places}
-use Rattle.mov_model.specs.Carried.{fresh, carried}
+use Rattle.carrier_model.specs.Steps.{carried}
+use Rattle.mov_model.specs.Carried.{Changes, fresh, steps}
 use Rattle.mov_model.specs.Movie.{Movie, movie_of}
 use Rattle.mov_model.specs.New.{fill, pieces_of, is_open, laid_movie, laid_kids, new_kids, new_movie, edit_cuts, edited_file}
 use Rattle.mov_model.specs.Parts.{track_of, tracks}
@@ -34,8 +34,14 @@ use Rattle.mov_model.specs.Support.{Supported}
 use Rattle.mov_model.specs.Edited.{changes, new_file}
 use Rattle.mov_model.specs.Cuts.{TablesStay, unit_cuts}
 use Rattle.mov_model.proofs.Again.{fill_all, kids, kids_joined, kids_bytes, kids_read, whole_kids, moov_padless, file_bytes}
-use Rattle.mov_model.proofs.Cells.{all_carried, all_read}
-use Rattle.mov_model.proofs.Parts.{udta_no_trak}
+use Rattle.mov_model.proofs.Carry.{first_all}
+use Rattle.mov_model.proofs.Cells.{Brings, all_carried, all_chunks, atoms_now, is_user, meta_sort, user_sort}
+use Rattle.carrier_model.specs.Lists.{sets_some}
+use Rattle.mov_model.specs.Keys.{edit_meta, is_meta, new_table, with_keys}
+use Rattle.qt_keys.specs.Table.{table_bytes}
+use Rattle.std.specs.Prelude.{IfSome, codes}
+use Rattle.std.proofs.Common.{None, Some}
+use Rattle.container_model.specs.Atoms.{atom}
 use Rattle.mov_model.proofs.Spliced.{laid_spliced}
 use Rattle.mov_model.proofs.Tables.{keeps, relocated_other}
 
@@ -123,9 +129,16 @@ module _ (f : ℕ → ℕ) where
       go true e t again = (stays_by c (relocated_other f c (other e (is c (codes "trak")) refl)) a.0, again t)
       go false e t again = track (is c (codes "trak")) refl t again
 
-  fresh_stay : (items : List Chunk) → AllByRecursion Stays (fresh udta items)
+  plain_stays : (c : Chunk) → is c (codes "trak") ≡ false → (c.pad ≡ []) × ((n : ℕ) → pad_len c.form n ≡ 0) → Stays c
+  plain_stays c n p = (relocated_other f c n, p)
+
+  fresh_stay : (items : List Chunk) → IfSome (fresh udta items) Stays
   fresh_stay [] = tt
-  fresh_stay (c ∷ cs) = ((relocated_other f (udta.fresh (c ∷ cs)) refl, (refl, λ n. refl)), tt)
+  fresh_stay (c ∷ cs) = plain_stays (udta.fresh (c ∷ cs)) refl (refl, λ n. refl)
+
+  meta_stays : (t : Bool) (b : List ℕ) → IfSome (cond t (Some (atom (codes "meta") b)) None) Stays
+  meta_stays true b = plain_stays (atom (codes "meta") b) refl (refl, λ n. refl)
+  meta_stays false b = tt
 
   free_stays : (body : List ℕ) → Stays (Rattle.container_model.specs.Atoms.atom (codes "free") body)
   free_stays body = (relocated_other f (Rattle.container_model.specs.Atoms.atom (codes "free") body) refl, (refl, λ n. refl))
@@ -140,18 +153,23 @@ module _ (f : ℕ → ℕ) where
   map_stays [] h = refl
   map_stays (c ∷ cs) h = rw (h.0.0, map_stays cs h.1) refl
 
-  edited_stays : (e : List (Item Value)) (c : Chunk) → udta.is c ≡ true → Stays c → Stays (edit_carrier udta user_items e c)
-  edited_stays e c u h = (relocated_other f (edit_carrier udta user_items e c) (udta_no_trak c u), h.1)
+  brings_stay : (e : Changes) (cs : List Chunk) → AllByRecursion Stays cs → Brings Stays e cs
+  brings_stay e cs h = record {
+    users = first_all is_user Stays (λ c. Stays (edit_carrier udta user_items e.users c)) (λ c u k. plain_stays (edit_carrier udta user_items e.users c) (user_sort.no_track c u) k.1) cs h;
+    new_user = λ none. fresh_stay (put_all user_items e.users []);
+    keys = first_all is_meta Stays (λ c. Stays (edit_meta e.keys c)) (λ c u k. plain_stays (edit_meta e.keys c) (meta_sort.no_track c u) k.1) cs h;
+    new_keys = λ none. meta_stays (sets_some e.keys) (table_bytes (with_keys e.keys new_table));
+  }
 
-  kids_stay : (m : Movie) (e : List (Item Value)) → AllByRecursion Stays (atoms_in m.movie).chunks → map (relocated f) (laid_kids m e) ≡ laid_kids m e
+  kids_stay : (m : Movie) (e : Changes) → AllByRecursion Stays (atoms_in m.movie).chunks → map (relocated f) (laid_kids m e) ≡ laid_kids m e
   kids_stay m e h =
-      let cells : AllCells Stays (carried udta user_items e (map cell_of (atoms_in m.movie).chunks))
-      = all_carried Stays e (edited_stays e) (fresh_stay (put_all user_items e [])) (map cell_of (atoms_in m.movie).chunks) (all_read Stays (atoms_in m.movie).chunks h) in
+      let cs = (atoms_in m.movie).chunks in
+      let cells : AllCells Stays (carried (steps e) (map cell_of cs)) = all_carried Stays e cs h (λ all. all_chunks Stays e (atoms_now cs) all (brings_stay e (atoms_now cs) all)) in
       map_stays (laid_kids m e)
-      (lay_all Stays (fill (is_open m e)) (record { on_pads = padded_stays; on_fill = λ last slot s. fill_all Stays (λ body lt. free_stays body) (is_open m e) last slot s }) shut (carried udta user_items e (map cell_of (atoms_in m.movie).chunks)) tt cells)
+      (lay_all Stays (fill (is_open m e)) (record { on_pads = padded_stays; on_fill = λ last slot s. fill_all Stays (λ body lt. free_stays body) (is_open m e) last slot s }) shut (carried (steps e) (map cell_of cs)) tt cells)
 
 -- the new movie is the one that was laid
-pub laid_same : (o : List ℕ) (e : List (Item Value)) (bytes : IsBytes o) (sup : Supported o) → AllByRecursion (λ t. Fixed (shift (edit_cuts (movie_of o) e)) (places (tables t))) (tracks (movie_of o)) → new_movie (movie_of o) e ≡ laid_movie (movie_of o) e
+pub laid_same : (o : List ℕ) (e : Changes) (bytes : IsBytes o) (sup : Supported o) → AllByRecursion (λ t. Fixed (shift (edit_cuts (movie_of o) e)) (places (tables t))) (tracks (movie_of o)) → new_movie (movie_of o) e ≡ laid_movie (movie_of o) e
 laid_same o e bytes sup h =
     let m = movie_of o in
     let f = shift (edit_cuts m e) in

@@ -1,13 +1,12 @@
 -- What a reader tells of a movie lies in the file: at the place of each atom that is met stand its bytes.
-use Rattle.std.proofs.Common.{◌≡◌, ℕ, zero, suc, ◌+◌, Bool, true, false, cond, List, [], ◌∷◌, ◌++◌, length, map, take, drop, refl, sym, ap, ◌∙◌, append_assoc, arith, Option, Some, None, length-append}
-use Rattle.std.specs.Prelude.{◌&&◌, ◌||◌, not, codes}
+use Rattle.std.proofs.Common.{◌≡◌, ℕ, zero, suc, ◌+◌, Bool, true, false, cond, List, [], ◌∷◌, ◌++◌, length, map, take, drop, refl, sym, ap, ◌∙◌, append_assoc, arith, Option, Some, None}
+use Rattle.std.specs.Prelude.{◌&&◌, ◌||◌, not}
 use Rattle.std.specs.List.{AllByRecursion, flat_map}
 use Rattle.std.proofs.lemmas.List.{append-nil, drop-drop, drop_at, take_at}
 use Rattle.me_bytes.specs.Bytes.{IsBytes}
-use Rattle.part_tree.specs.declared.names.Span.{Span}
 use Rattle.part_tree.specs.declared.part.Part.{Part}
-use Rattle.container_model.specs.Atoms.{atoms_in, is}
-use Rattle.container_model.specs.Chunk.{Chunk, chunks, header_bytes, joined, spell, spell_all}
+use Rattle.container_model.specs.Atoms.{atoms_in}
+use Rattle.container_model.specs.Chunk.{Chunk, header_bytes, joined, spell, spell_all}
 use Rattle.container_model.specs.Deep.{Leaf, kids}
 use Rattle.container_model.specs.Sizes.{atom_front, inside, top, user}
 use Rattle.container_model.specs.Walk.{Step, along, body_at, chunk_at, chunk_met, end_at, walk, walk_at}
@@ -18,14 +17,14 @@ use Rattle.container_model.proofs.Units.{spell_all-append}
 use Rattle.container_model.proofs.Walk.{all_join}
 use Rattle.qt_text.specs.User.{udta}
 use Rattle.mov_model.specs.Atoms.{Place, dinf, file, format, mdia, minf, moov, opens, stbl, trak, user_data}
-use Rattle.mov_model.specs.Map.{body_span, bytes_in, essence, essence_at, essence_met, mdat_bodies, met_bodies, parts_from, parts_of, part_met}
+use Rattle.mov_model.specs.Map.{body_span, bytes_in, essence, essence_at, essence_met, mdat_bodies, met_bodies, parts_from, parts_of}
 use Rattle.mov_model.specs.Pieces.{is_mdat}
 use Rattle.mov_model.proofs.Steps.{InTrack, inner, inner_track, met_both, met_row as met_rows, walk_kid}
 use Rattle.std.proofs.lemmas.List.Concat.{flat_map-append}
 use Rattle.mov_model.specs.Movie.{all_atoms, movie_of, top_run}
 use Rattle.mov_model.specs.Reading.{atoms_met, count_parts, inside_at, inside_steps, kid_steps, moov_steps, reading, row}
 use Rattle.mov_model.specs.Support.{Supported}
-use Rattle.mov_model.proofs.Again.{file_bytes, whole}
+use Rattle.mov_model.proofs.Again.{whole}
 
 -- ---- bytes that lie at a place
 

@@ -9,7 +9,7 @@ use Rattle.container_model.proofs.Items.{same_true}
 use Rattle.container_model.proofs.Walk.{all_parts, all_join}
 use Rattle.mov_model.specs.Atoms.{Place, file, moov, is_padding}
 use Rattle.container_model.specs.Atoms.{is, is_listed, atoms_in}
-use Rattle.mov_model.specs.Kind.{begins_movie}
+use Rattle.mov_model.specs.Begins.{begins_movie}
 use Rattle.mov_model.specs.Tables.{tables}
 use Rattle.sample_tables.specs.Tables.{places}
 use Rattle.mov_model.specs.Movie.{Movie, split_by, split, all_atoms, top_run, movie_of}

@@ -2,11 +2,10 @@
 use Rattle.std.specs.Prelude.{◌≡◌, ℕ, zero, suc, ◌+◌, ◌*◌, List, [], ◌∷◌, length, map, codes, if◌then◌else◌}
 use Rattle.std.specs.List.{AllByRecursion, flat_map}
 use Rattle.part_tree.specs.declared.field.EditItem.{EditItem}
-use Rattle.part_tree.specs.declared.field.Value.{Value}
 use Rattle.part_tree.specs.declared.names.Span.{Span}
 use Rattle.container_model.specs.Chunk.{Chunk, header_bytes, spell_all}
 use Rattle.container_model.specs.Cuts.{cuts_with}
-use Rattle.container_model.specs.Items.{Item}
+use Rattle.mov_model.specs.Carried.{Changes}
 use Rattle.container_model.specs.Rows.{Width, be32, be64, spelled}
 use Rattle.container_model.specs.Splice.{Cut, shift}
 use Rattle.container_model.specs.Walk.{Step, chunk_at, end_at, body_at, walk}
@@ -80,7 +79,7 @@ header_cut m n = record {
 }
 
 -- by place: the header of moov, then the tables of the atoms that are copied and the slots of the units
-abbrev pub all_cuts : Movie → List (Item Value) → List Cut
+abbrev pub all_cuts : Movie → Changes → List Cut
 all_cuts m e = header_cut m (length (new_movie m e).movie.body) ∷ cuts_with (kid_cuts (shift (edit_cuts m e))) (fill (ends_file m e)) (kids_at m e) (whole_pieces m e)
 
 -- no table holds a place that moves
@@ -88,5 +87,5 @@ abbrev pub TablesStay : List ℕ → List EditItem → Type 0
 TablesStay o e = AllByRecursion (λ t. AllByRecursion (λ p. shift (edit_cuts (movie_of o) (changes o e)) p ≡ p) (places (tables t))) (tracks (movie_of o))
 
 -- by place: the header of moov, and the slots of the units
-abbrev pub unit_cuts : Movie → List (Item Value) → List Cut
+abbrev pub unit_cuts : Movie → Changes → List Cut
 unit_cuts m e = header_cut m (length (new_movie m e).movie.body) ∷ edit_cuts m e

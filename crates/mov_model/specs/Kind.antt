@@ -1,14 +1,36 @@
--- Whether a file is a movie, by its first twelve bytes.
-use Rattle.std.specs.Prelude.{ℕ, List, Bool, true, false, Option, Some}
-use Rattle.part_tree.specs.Kinds.{kind}
-use Rattle.part_tree.specs.declared.names.Kind.{Kind}
+-- QuickTime movies as a kind of files.
+use Rattle.std.specs.Prelude.{List, None}
 use Rattle.part_tree.specs.declared.names.Kind.TheVariants.{Mov}
+use Rattle.field_model.specs.Kind.{KindModel}
+use Rattle.mov_model.specs.Edited.{changes, fields, new_file}
+use Rattle.mov_model.specs.Kept.{Kept, kept, placed}
+use Rattle.mov_model.specs.Large.{too_large}
+use Rattle.mov_model.specs.Map.{essence, parts_of, tracks_of}
+use Rattle.mov_model.specs.Pieces.{Pieces, pieces}
+use Rattle.mov_model.specs.Room.{has_room, patches}
+use Rattle.mov_model.specs.Why.{why}
 
--- the kind is that of movies
-abbrev pub is_mov : Option Kind → Bool
-is_mov (Some Mov) = true
-is_mov k = false
-
--- the first bytes are those of a movie
-abbrev pub begins_movie : List ℕ → Bool
-begins_movie b = is_mov (kind b)
+-- The kind where each table of chunk places keeps its width, so that a place past it is too large. The essence is what the `mdat`
+-- atoms hold. Nothing of it has a checksum of its own.
+abbrev pub narrow_kind : KindModel
+narrow_kind = record {
+  Kept = Kept;
+  Pieces = List Pieces;
+  kind = λ o. Mov;
+  why = why;
+  fields = fields;
+  streams = λ o. 0;
+  parts = parts_of;
+  essence = essence;
+  hashed = λ o. None;
+  entries = λ o. None;
+  tracks = tracks_of;
+  new_file = new_file;
+  too_large = too_large;
+  has_room = has_room;
+  patches = patches;
+  kept = kept;
+  placed = λ o e k. placed k (changes o e);
+  pieces = pieces;
+  Also = λ o e n. Unit {0};
+}

@@ -6,7 +6,9 @@ use Rattle.part_tree.specs.declared.names.Span.{Span}
 use Rattle.part_tree.specs.declared.part.Part.{Part}
 use Rattle.part_tree.specs.declared.part.Role.{Role}
 use Rattle.part_tree.specs.declared.part.Role.TheVariants.{Opaque, Padding, Tables, UserData, Essence}
+use Rattle.part_tree.specs.declared.shows.Track.{Track}
 use Rattle.container_model.specs.Chunk.{Chunk, spell}
+use Rattle.container_model.specs.Items.{is_nil}
 use Rattle.container_model.specs.Walk.{Step, chunk_at, chunk_met, end_at, body_at, along, walk}
 use Rattle.container_model.specs.Deep.{Leaf}
 use Rattle.mov_model.specs.Atoms.{Place, file, moov, stbl, is_padding, format}
@@ -136,3 +138,21 @@ track_met k = if is k.atom (codes "trak") then tables_among (walk format 5 moov 
 -- the tracks of a file, in file order; in a supported one each list has one table at most
 abbrev pub track_tables : List ℕ → List TrackTables
 track_tables b = flat_map track_met (kids_of (movie_of b))
+
+-- the first of some spans; none of them is a span of no bytes
+abbrev pub span_or : List Span → Span
+span_or [] = record { at = 0; len = 0 }
+span_or (s ∷ ss) = s
+
+-- the first, if there is one
+abbrev pub first_span : List Span → Option Span
+first_span [] = None
+first_span (s ∷ ss) = Some s
+
+-- a track is told by its table of chunk places, in four or in eight bytes, its runs and its sizes
+abbrev pub track_by : TrackTables → Track
+track_by t = record { chunks = span_or (t.narrow ++ t.wide); wide = is_nil t.narrow && not (is_nil t.wide); stsc = first_span t.runs; stsz = first_span t.sizes }
+
+-- the tracks of a file
+abbrev pub tracks_of : List ℕ → List Track
+tracks_of b = map track_by (track_tables b)

@@ -1,16 +1,15 @@
 -- The new movie: the unit of the user data, its slot and padding, and the relocated tables (this project's own).
 use Rattle.std.specs.Prelude.{Bool, List, [], codes, drop, false, if◌then◌else◌, length, map, nat_le, nat_lt, take, true, ℕ, ◌&&◌, ◌++◌, ◌+◌, ◌-◌, ◌^◌, ◌||◌, ◌∷◌}
-use Rattle.part_tree.specs.declared.field.Value.{Value}
 use Rattle.container_model.specs.Chunk.{Chunk, header_bytes, spell_all}
-use Rattle.container_model.specs.Items.{Item, is_nil}
+use Rattle.container_model.specs.Items.{is_nil}
 use Rattle.container_model.specs.Splice.{Cut, shift}
 use Rattle.container_model.specs.Units.{Fill, Piece, copied, cuts, lay, replaced, shut, unit_bytes, units}
 use Rattle.mov_model.specs.Atoms.{cell_of, is_padding}
 use Rattle.container_model.specs.Atoms.{atom, atoms_in}
-use Rattle.mov_model.specs.Carried.{carried}
+use Rattle.carrier_model.specs.Steps.{carried}
+use Rattle.mov_model.specs.Carried.{Changes, steps}
 use Rattle.mov_model.specs.Movie.{Movie, movie_of, spell_movie}
 use Rattle.mov_model.specs.Tables.{relocated}
-use Rattle.qt_text.specs.User.{udta, user_items}
 
 -- ---- padding
 
@@ -56,10 +55,10 @@ hanging f (replaced lead slot now false ∷ ps) = hanging f ps
 
 -- ---- the new movie
 
-module _ (m : Movie) (e : List (Item Value)) where
+module _ (m : Movie) (e : Changes) where
   -- the atoms of moov: those that are copied, and the units
   abbrev pub pieces_of : List Piece
-  pieces_of = units shut (carried udta user_items e (map cell_of (atoms_in m.movie).chunks))
+  pieces_of = units shut (carried (steps e) (map cell_of (atoms_in m.movie).chunks))
 
   -- A slot that ends moov, where nothing is left in moov, goes on through the padding behind moov.
   abbrev pub is_open : Bool
@@ -122,8 +121,8 @@ module _ (m : Movie) (e : List (Item Value)) where
   abbrev pub overlaid : Movie
   overlaid = record m { movie = record m.movie { body = spell_all (map (relocated (shift edit_cuts)) (atoms_in m.movie).chunks) ++ (atoms_in m.movie).left } }
 
--- the new file, by the items of the user data
-unfoldable pub edited_file : List ℕ → List (Item Value) → List ℕ
+-- the new file, by what an edit changes
+unfoldable pub edited_file : List ℕ → Changes → List ℕ
 edited_file o e = spell_movie (new_movie (movie_of o) e)
 
 -- the bytes of a movie with another size in the header of moov

@@ -12,15 +12,19 @@ use Rattle.qt_text.specs.User.{udta}
 abbrev pub parts : Movie → List Chunk
 parts m = solids is_padding (atoms_in m.movie).chunks
 
+-- the first one of a sort, as a list of one or none
+abbrev pub first_of : (Chunk → Bool) → List Chunk → List Chunk
+first_of is [] = []
+first_of is (c ∷ cs) = if is c then c ∷ [] else first_of is cs
+
+-- the first user data
+abbrev pub first_user : List Chunk → List Chunk
+first_user cs = first_of (λ c. udta.is c) cs
+
 -- the items of the first user data
 abbrev pub first_items : List Chunk → List Chunk
 first_items [] = []
 first_items (c ∷ cs) = if udta.is c then (udta.opening c).chunks else first_items cs
-
--- the first user data, as a list of one or none
-abbrev pub first_user : List Chunk → List Chunk
-first_user [] = []
-first_user (c ∷ cs) = if udta.is c then c ∷ [] else first_user cs
 
 -- whether an atom of this type is among them
 abbrev pub has_id : List ℕ → List Chunk → Bool

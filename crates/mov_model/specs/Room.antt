@@ -2,11 +2,10 @@
 use Rattle.std.specs.Prelude.{ℕ, ◌+◌, ◌-◌, ◌^◌, ◌≡◌, nat_le, nat_lt, ◌==◌, List, [], ◌∷◌, ◌++◌, length, Bool, true, ◌&&◌, ◌||◌, if◌then◌else◌}
 use Rattle.std.specs.Int.{w32, w64, to_be_bytes}
 use Rattle.part_tree.specs.declared.field.EditItem.{EditItem}
-use Rattle.part_tree.specs.declared.field.Value.{Value}
 use Rattle.part_tree.specs.declared.plan.Patch.{Patch}
 use Rattle.part_tree.specs.Patches.{all_bytes}
 use Rattle.container_model.specs.Chunk.{Form, short, long, spell_all}
-use Rattle.container_model.specs.Items.{Item}
+use Rattle.mov_model.specs.Carried.{Changes}
 use Rattle.container_model.specs.Units.{Piece, copied, replaced, unit_bytes}
 use Rattle.carrier_model.specs.Room.{patch, unit_patches}
 use Rattle.mov_model.specs.Movie.{Movie, movie_of}
@@ -38,7 +37,7 @@ abbrev pub moov_patch : Movie → ℕ → List Patch
 moov_patch m n = if n == length m.movie.body then [] else size_patch m.movie.form (length (spell_all m.before)) n
 
 -- by place: the size of moov, then each unit
-abbrev pub patches_of : Movie → List (Item Value) → List Patch
+abbrev pub patches_of : Movie → Changes → List Patch
 patches_of m e = moov_patch m (length (new_movie m e).movie.body) ++ unit_patches (fill (ends_file m e)) (kids_at m e) (whole_pieces m e)
 
 -- the patches of an edit, by place
@@ -48,8 +47,12 @@ patches o e = patches_of (movie_of o) (changes o e)
 -- ---- room
 
 -- every unit fits, and the patches have at most 16 MiB
+abbrev pub room_of : Movie → Changes → Bool
+room_of m e = units_fit (ends_file m e) (whole_pieces m e) && nat_le (all_bytes (patches_of m e)) (2 ^ 24)
+
+-- the same of an edit
 abbrev pub has_room : List ℕ → List EditItem → Bool
-has_room o e = units_fit (ends_file (movie_of o) (changes o e)) (whole_pieces (movie_of o) (changes o e)) && nat_le (all_bytes (patches o e)) (2 ^ 24)
+has_room o e = room_of (movie_of o) (changes o e)
 
 -- the edit has room in place
 abbrev pub Room : List ℕ → List EditItem → Type 0

@@ -6,7 +6,7 @@ use Rattle.container_model.specs.Deep.{Whole}
 use Rattle.container_model.specs.Units.{solids}
 use Rattle.mov_model.specs.Atoms.{format, is_padding, moov}
 use Rattle.container_model.specs.Atoms.{atoms_in, is}
-use Rattle.mov_model.specs.Kind.{begins_movie}
+use Rattle.mov_model.specs.Begins.{begins_movie}
 use Rattle.mov_model.specs.Movie.{Movie, all_atoms, movie_of, top_run}
 use Rattle.mov_model.specs.Parts.{first_user, has_id, parts, tracks}
 use Rattle.mov_model.specs.Pieces.{held}

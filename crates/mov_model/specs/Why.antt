@@ -11,7 +11,7 @@ use Rattle.container_model.specs.Tests.{first, ended}
 use Rattle.container_model.specs.Walk.{Step, chunk_at, end_at}
 use Rattle.mov_model.specs.Atoms.{Place, dinf, file, moov, stbl, user_data}
 use Rattle.container_model.specs.Atoms.{is, is_listed}
-use Rattle.mov_model.specs.Kind.{begins_movie}
+use Rattle.mov_model.specs.Begins.{begins_movie}
 use Rattle.mov_model.specs.Movie.{all_atoms, movie_of}
 use Rattle.mov_model.specs.Parts.{tracks}
 use Rattle.mov_model.specs.Pieces.{held}

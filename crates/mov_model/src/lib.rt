@@ -1,13 +1,11 @@
 //! The laws of an edit of a QuickTime movie.
 #![tactic(auto)]
 
-ghost use Rattle.std.specs.Prelude.{◌≡◌, ◌≤◌, ◌⊎◌, ◌^◌, ◌-◌, ℕ, List, [], ◌++◌, false, length, map, take, drop, Some, None};
+ghost use Rattle.std.specs.Prelude.{◌≡◌, ◌≤◌, ℕ, List, length, map, take, drop, Some, None};
 ghost use Rattle.me_bytes.specs.Bytes.{IsBytes};
 ghost use Rattle.carrier_model.specs.Gaps.{moves_of};
 ghost use Rattle.container_model.specs.Splice.{Ascend, shift, splice};
 ghost use Rattle.part_tree.specs.Moves.{place};
-ghost use Rattle.container_model.specs.Items.{Item};
-ghost use Rattle.part_tree.specs.declared.field.Value.{Value};
 ghost use Rattle.container_model.specs.Atoms.{atoms_in};
 ghost use Rattle.container_model.specs.Chunk.{Chunk, joined};
 ghost use Rattle.qt_text.specs.User.{udta};
@@ -15,38 +13,36 @@ ghost use Rattle.mov_model.specs.Map.{bytes_in, essence, mdat_bodies, met_bodies
 ghost use Rattle.mov_model.specs.Movie.{movie_of, spell_movie, all_atoms, top_run};
 ghost use Rattle.mov_model.specs.Reading.{count_parts};
 ghost use Rattle.mov_model.specs.New.{edited_file, new_movie, laid_movie, overlaid, edit_cuts, with_size};
-ghost use Rattle.mov_model.specs.Edited.{Edited, changes, fields, new_file, sets_keys};
+ghost use Rattle.field_model.specs.Kind.{IsKind};
+ghost use Rattle.mov_model.specs.Carried.{Changes};
+ghost use Rattle.mov_model.specs.Edited.{changes, new_file};
+ghost use Rattle.mov_model.specs.Kind.{narrow_kind};
 ghost use Rattle.mov_model.specs.Support.{IsHeld, Supported};
 ghost use Rattle.mov_model.specs.Pieces.{held};
 ghost use Rattle.mov_model.specs.Why.{why};
 ghost use Rattle.part_tree.specs.declared.field.EditItem.{EditItem};
-ghost use Rattle.part_tree.specs.declared.field.RuleSet.TheVariants.{Base};
-ghost use Rattle.part_tree.specs.declared.names.Kind.TheVariants.{Mov};
-ghost use Rattle.field_model.specs.Broken.{broken};
 ghost use Rattle.mov_model.specs.Cuts.{TablesStay, all_cuts, unit_cuts};
 ghost use Rattle.mov_model.specs.Room.{Room, patches};
 ghost use Rattle.part_tree.specs.Order.{SoundPatches};
 ghost use Rattle.part_tree.specs.Patches.{laid};
 ghost use Rattle.std.specs.List.{AllByRecursion, flat_map};
-ghost use Rattle.mov_model.specs.Large.{too_large};
 
-/// For every supported movie and every edit that keeps the rules of Base, names no key, and after which nothing is too large, the new
-/// file is the old one edited.
-pub fn new_is_edited()
-    ensures { (o : List ℕ) (e : List EditItem) → IsBytes o → Supported o → broken Mov 0 (fields o) e Base ≡ None → sets_keys e ≡ false
-        → too_large o e ≡ None → Edited o e (new_file o e) }
+/// Movies have the laws of a kind of files, where each table of chunk places keeps its width: an accepted edit of user items and
+/// keys that isn't too large makes the old file edited, in place where it has room.
+pub fn narrow_files_are_a_kind()
+    ensures { IsKind narrow_kind }
 {}
 
 /// Before its tables are relocated, the new file is the old one with the slots replaced and the size of `moov` set.
 pub fn laid_is_spliced()
-    ensures { (o : List ℕ) (e : List (Item Value)) → IsBytes o → Supported o
+    ensures { (o : List ℕ) (e : Changes) → IsBytes o → Supported o
         → spell_movie (laid_movie (movie_of o) e) ≡ with_size (movie_of o) (length (laid_movie (movie_of o) e).movie.body) (splice o (edit_cuts (movie_of o) e)) }
 {}
 
 /// The new file is the old one with its tables relocated in their places, then the slots replaced, then the size of
 /// `moov` set.
 pub fn new_is_overlaid()
-    ensures { (o : List ℕ) (e : List (Item Value)) → IsBytes o → Supported o
+    ensures { (o : List ℕ) (e : Changes) → IsBytes o → Supported o
         → edited_file o e ≡ with_size (movie_of o) (length (new_movie (movie_of o) e).movie.body) (splice (spell_movie (overlaid (movie_of o) e)) (edit_cuts (movie_of o) e)) }
 {}
 
@@ -73,17 +69,13 @@ pub fn only_units_change()
 {}
 
 /// Where an edit has room, no chunk of a track moves, and the patches, laid over the old file at the new length, make the
-/// new file. They are in order, lie in the new file, have at most 16 MiB, cover what the file gains, and are two at most.
+/// new file. They are in order, lie in the new file, have at most 16 MiB, cover what the file gains, and are three at most: the
+/// size of `moov`, the user data and the key table.
 pub fn patches_make_new()
     ensures stay { (o : List ℕ) (e : List EditItem) → IsBytes o → Supported o → Room o e → TablesStay o e }
     ensures made { (o : List ℕ) (e : List EditItem) → IsBytes o → Supported o → Room o e → new_file o e ≡ laid (length (new_file o e)) (patches o e) o }
     ensures sound { (o : List ℕ) (e : List EditItem) → IsBytes o → Supported o → Room o e → SoundPatches (length o) (length (new_file o e)) (patches o e) }
-    ensures two { (o : List ℕ) (e : List EditItem) → IsBytes o → Supported o → length (patches o e) ≤ 2 }
-{}
-
-/// Where something is edited and nothing is too large, the new file has at most 2^63-1 bytes.
-pub fn new_is_no_larger()
-    ensures { (o : List ℕ) (e : List EditItem) → too_large o e ≡ None → (changes o e ≡ []) ⊎ (length (new_file o e) ≤ 2 ^ 63 - 1) }
+    ensures three { (o : List ℕ) (e : List EditItem) → IsBytes o → Supported o → length (patches o e) ≤ 3 }
 {}
 
 /// A reader tells as many parts of a movie as are counted. At the spans of their bodies lie the bodies of the atoms that are met,

@@ -1,5 +1,5 @@
 -- Where a form becomes RF64, the span of the size of `data` stands among those of the edit's units, by its place.
-use Rattle.std.proofs.Common.{◌≡◌, ℕ, ◌+◌, ◌-◌, ◌≤◌, Bool, true, false, cond, leb, List, [], ◌∷◌, ◌++◌, length, map, refl, sym, ap, subst, ◌∙◌, arith, append-nil, length-append}
+use Rattle.std.proofs.Common.{◌≡◌, ℕ, ◌+◌, ◌-◌, ◌≤◌, Bool, true, false, cond, leb, List, [], ◌∷◌, ◌++◌, length, refl, sym, ap, subst, ◌∙◌, arith, append-nil, length-append}
 use Rattle.std.specs.Prelude.{◌&&◌, not, codes, take, drop}
 use Rattle.std.specs.List.{flat_map, AllByRecursion}
 use Rattle.std.proofs.lemmas.Bool.{cond-true, cond-false, le-leb, leb-true}
@@ -7,7 +7,7 @@ use Rattle.field_model.specs.Update.{RawItem}
 use Rattle.part_tree.specs.declared.names.Span.{Span}
 use Rattle.container_model.specs.Chunk.{Chunk, spell, spell_all, header_bytes}
 use Rattle.container_model.specs.Splice.{Cut}
-use Rattle.container_model.specs.Units.{Cell, kept, gap, edited, was, live, Piece, copied, replaced, Slot, shut, begun, closed, units, kept_next, is_empty, lacks_pad, Fill, cut_of, cuts}
+use Rattle.container_model.specs.Units.{Cell, kept, gap, edited, was, live, Piece, replaced, Slot, shut, begun, units, kept_next, is_empty, lacks_pad, Fill, cut_of, cuts}
 use Rattle.container_model.proofs.Codec.{IsBytes}
 use Rattle.container_model.proofs.Units.{AllCells, From, begun_bytes, cuts_from, spell_all-append}
 use Rattle.carrier_model.specs.Info.{is_padding}
@@ -128,7 +128,7 @@ module _ (fill : Fill) where
 
     among_next : (r : Bool) (c : Chunk) (q at : ℕ) (a : List Cell) → NoData c → at ≡ q + (length (spell c) + length (spell_all (flat_map was a)))
         → ((s : Slot) (p : ℕ) → AllByRecursion NoData (lead_of s) → at ≡ p + (length (begun_bytes s) + length (spell_all (flat_map was a)))
-            → wide_cuts fill p (units s (a ++ kept d ∷ xs)) ≡ put_cut (field_of at) (cuts fill p (units s (a ++ kept d ∷ xs))))
+        → wide_cuts fill p (units s (a ++ kept d ∷ xs)) ≡ put_cut (field_of at) (cuts fill p (units s (a ++ kept d ∷ xs))))
         → wide_cuts fill q (kept_next r c (λ t. units t (a ++ kept d ∷ xs))) ≡ put_cut (field_of at) (cuts fill q (kept_next r c (λ t. units t (a ++ kept d ∷ xs))))
     among_next true c q at a n e again =
         let one : length (spell_all (c ∷ []) ++ []) ≡ length (spell c) = ap length (append-nil (spell c ++ []) ∙ append-nil (spell c)) in
@@ -161,15 +161,15 @@ module _ (fill : Fill) where
     field_among (begun lead slot now) p at (edited old new ∷ a) n k e =
         field_among (begun lead (slot ++ spell_all old) (now ++ new)) p at a n k
         (
-          omega (
-            arith,
-            e,
-            ap length (spell_all-append old (flat_map was a)),
-            length-append (spell_all old) (spell_all (flat_map was a)),
-            length-append (spell_all lead) slot,
-            length-append (spell_all lead) (slot ++ spell_all old),
-            length-append slot (spell_all old),
-          )
+        omega (
+          arith,
+          e,
+          ap length (spell_all-append old (flat_map was a)),
+          length-append (spell_all old) (spell_all (flat_map was a)),
+          length-append (spell_all lead) slot,
+          length-append (spell_all lead) (slot ++ spell_all old),
+          length-append slot (spell_all old),
+        )
         )
 
 -- ---- the `data` that is kept

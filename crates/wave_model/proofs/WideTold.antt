@@ -1,12 +1,11 @@
 -- What a planner tells of a form that becomes RF64: the reserved JUNK, and the parts.
-use Rattle.std.proofs.Common.{◌≡◌, ℕ, ◌+◌, ◌%◌, ◌^◌, ◌≤◌, Bool, true, false, cond, List, [], ◌∷◌, ◌++◌, length, map, drop, refl, sym, ap, subst, ◌∙◌, arith, inl, inr, length-append}
-use Rattle.std.specs.Prelude.{◌⊎◌, ◌&&◌, codes, nat_le, take}
+use Rattle.std.proofs.Common.{◌≡◌, ℕ, ◌+◌, ◌%◌, ◌^◌, ◌≤◌, Bool, true, false, List, [], ◌∷◌, ◌++◌, length, map, drop, refl, sym, ap, subst, ◌∙◌, arith, inl, inr, length-append}
+use Rattle.std.specs.Prelude.{◌⊎◌, codes, nat_le, take}
 use Rattle.std.specs.Int.{w32, to_le_bytes}
 use Rattle.std.specs.List.{flat_map, AllByRecursion}
 use Rattle.std.proofs.lemmas.Bool.{cond-true, cond-false, and_parts, leb-true, ltb-false}
 use Rattle.field_model.specs.Update.{RawItem}
-use Rattle.container_model.specs.Chunk.{Form, riff, wide, Chunk, spell, spell_all, header_bytes, pad_len, Pads, PadStands}
-use Rattle.container_model.specs.Units.{lacks_pad}
+use Rattle.container_model.specs.Chunk.{Form, wide, Chunk, spell_all, header_bytes, pad_len, Pads, PadStands}
 use Rattle.container_model.proofs.Codec.{IsBytes}
 use Rattle.carrier_model.specs.Info.{is_padding, list_run}
 use Rattle.carrier_model.proofs.Info.{padding_no_list}

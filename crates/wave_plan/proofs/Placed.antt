@@ -1,5 +1,5 @@
 -- One span more among others, and spans that ascend.
-use Rattle.std.proofs.Common.{◌≡◌, ◌∙◌, ℕ, suc, ◌+◌, ◌≤◌, Bool, true, false, cond, leb, List, [], ◌∷◌, ◌++◌, length, map, take, drop, refl, sym, ap, arith}
+use Rattle.std.proofs.Common.{◌≡◌, ◌∙◌, ℕ, suc, ◌+◌, ◌≤◌, Bool, true, false, cond, leb, List, [], ◌∷◌, map, refl, ap, arith}
 use Rattle.std.specs.List.{insert}
 use Rattle.container_model.specs.Splice.{Cut}
 use Rattle.wave_model.proofs.WideField as wide

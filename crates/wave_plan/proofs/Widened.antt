@@ -1,5 +1,5 @@
 -- A form that becomes RF64: what a planner tells makes the new file, and what is too large in it.
-use Rattle.std.proofs.Common.{◌≡◌, ◌∙◌, ℕ, ◌+◌, ◌-◌, ◌/◌, ◌%◌, ◌^◌, ◌<◌, ◌≤◌, Bool, true, false, cond, eqb, List, [], ◌∷◌, ◌++◌, length, map, take, drop, refl, sym, ap, subst, arith, append_assoc, append-nil, length-append}
+use Rattle.std.proofs.Common.{◌≡◌, ◌∙◌, ℕ, ◌+◌, ◌-◌, ◌/◌, ◌%◌, ◌^◌, ◌<◌, ◌≤◌, Bool, true, false, cond, eqb, List, [], ◌∷◌, ◌++◌, length, map, take, drop, refl, sym, ap, arith, append_assoc, append-nil, length-append}
 use Rattle.std.specs.Prelude.{Option, Some, None, ◌&&◌, codes, replicate}
 use Rattle.std.specs.Int.{w32, to_le_bytes}
 use Rattle.std.specs.List.{flat_map}
@@ -14,17 +14,15 @@ use Rattle.field_model.specs.KindReads.{IsForm}
 use Rattle.field_model.specs.Update.{raw_items}
 use Rattle.container_model.specs.Chunk.{riff, Chunk, header_bytes, spell, spell_all}
 use Rattle.container_model.specs.Splice.{Ascend, Cut, splice}
-use Rattle.container_model.specs.Units.{cuts}
 use Rattle.container_model.proofs.Codec.{IsBytes}
-use Rattle.carrier_model.specs.RiffForm.{new_pad, pad_cut}
+use Rattle.carrier_model.specs.RiffForm.{pad_cut}
 use Rattle.wave_model.specs.Wave.{is_big, Wave, wave_of, inner, kind_of, spell_wave}
 use Rattle.wave_model.specs.Fields.{bodies, body_in, fields, is_info}
 use Rattle.wave_model.specs.Edited.{Supported, first_size, formats, parts, parts_of, sounds}
 use Rattle.wave_model.specs.Kind.{wave_kind}
-use Rattle.wave_model.specs.Large.{form_sizes}
-use Rattle.wave_model.specs.Map.{align, sound}
+use Rattle.wave_model.specs.Map.{sound}
 use Rattle.wave_model.specs.New.{children_at, fill_of, new_children, new_size, new_wave, pieces_of}
-use Rattle.wave_model.specs.Widen.{cuts_widened, ds64_body, ds64_for, file_after, first_len, large_after, new_ds64, reserved, room_after, sizes_in, wide_cuts, widened_cuts, widened_to, widened_wave, widens}
+use Rattle.wave_model.specs.Widen.{cuts_widened, ds64_body, ds64_for, file_after, first_len, large_after, new_ds64, reserved, room_after, wide_cuts, widened_to, widened_wave, widens}
 use Rattle.wave_model.proofs.Edited.{same_formats}
 use Rattle.wave_model.proofs.Form.{spelled_is}
 use Rattle.wave_model.proofs.Items.{items_fine}
@@ -38,7 +36,6 @@ use Rattle.wave_model.proofs.WideField.{field_placed, put_cut, sound_len}
 use Rattle.wave_model.proofs.WideTold.{reserved_first, reserves, wide_parts}
 use Rattle.wave_model.proofs.Widened.{ds64_len, no_ds64, riff_small, view_kids, wide_size}
 use Rattle.wave_model.proofs.Widened as wider
-use Rattle.unit_plan.specs.declared.cut.CutAt.{CutAt}
 use Rattle.unit_plan.specs.declared.row.UnitCuts.{UnitCuts}
 use Rattle.unit_plan.specs.Cuts.{cut_in, SpansAscend}
 use Rattle.unit_plan.specs.Planned as Units
@@ -48,11 +45,11 @@ use Rattle.wave_plan.specs.declared.frame.Frame.{Frame}
 use Rattle.wave_plan.specs.declared.widen.Widening.{Widening}
 use Rattle.wave_plan.specs.Frame.{IsFrame, pad_after}
 use Rattle.wave_plan.specs.Framed.{pad_cuts}
-use Rattle.wave_plan.specs.Planned.{ComesTo, IsListed, StandsIn, list_sizes, part_count}
-use Rattle.wave_plan.specs.Widened.{IsReserved, IsWideningOf, ds64_at, ds64_by, ds64_spelled, field_at, front_at, more_bytes, more_parts, widened, with_cut}
+use Rattle.wave_plan.specs.Planned.{ComesTo, IsListed, StandsIn, list_sizes}
+use Rattle.wave_plan.specs.Widened.{IsReserved, IsWideningOf, ds64_at, ds64_by, ds64_spelled, field_at, more_bytes, more_parts, widened, with_cut}
 use Rattle.wave_plan.proofs.Answered.{above_none}
 use Rattle.wave_plan.proofs.Placed.{with_cut_in}
-use Rattle.wave_plan.proofs.Told.{behind_chunks, counted, cuts_are, eqb_sym, file_long, inner_long, map-append, new_pad_by, pad_stood, pad_told, pads_same, parts_are}
+use Rattle.wave_plan.proofs.Told.{behind_chunks, counted, cuts_are, file_long, map-append, new_pad_by, pad_stood, pad_told, pads_same, parts_are}
 
 -- ---- the sizes that pass their limits
 

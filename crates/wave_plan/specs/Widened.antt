@@ -1,7 +1,6 @@
 -- The spans of an edit that makes a RIFF form RF64, as a planner holds them (this project's own; EBU Tech 3306 for `ds64`).
-use Rattle.std.specs.Prelude.{◌≡◌, ◌≤◌, ℕ, ◌+◌, ◌-◌, ◌/◌, ◌%◌, ◌^◌, List, [], ◌∷◌, ◌++◌, length, take, Bool, true, false, nat_le, codes, Option, Some, None, if◌then◌else◌}
+use Rattle.std.specs.Prelude.{◌≡◌, ◌≤◌, ℕ, ◌+◌, ◌-◌, ◌/◌, ◌%◌, ◌^◌, List, [], ◌∷◌, ◌++◌, length, take, false, nat_le, codes, Option, Some, None, if◌then◌else◌}
 use Rattle.std.specs.Int.{w32, to_le_bytes}
-use Rattle.part_tree.specs.declared.names.Span.{Span}
 use Rattle.container_model.specs.Chunk.{Chunk}
 use Rattle.wave_model.specs.Wave.{is_big, wave_of}
 use Rattle.wave_model.specs.Map.{align, sound}

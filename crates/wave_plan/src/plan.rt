@@ -70,12 +70,7 @@ fn size_after(frame: &Frame, moved: u64) -> u64
 
 // The plan of an edit that keeps the width of a form's size, by what its units come to; the form has `size` bytes then. `TooLarge` is
 // the first of these that passes its limit: the parts, the form's size in its own field, and the file.
-fn plan_narrow(
-    alloc: Global,
-    frame: &Frame,
-    size: u64,
-    units: UnitCuts,
-) -> Result<Plan, PlanFault>
+fn plan_narrow(alloc: Global, frame: &Frame, size: u64, units: UnitCuts) -> Result<Plan, PlanFault>
     requires stands { StandsIn frame.now units }
     requires sum { size + frame.now.len ≡ spliced_len frame.now.len units.cuts.items + frame.now.size }
     ensures plans { (b : List ℕ) (e : List EditItem) → IsBytes b → Supported b → IsFrame b frame.now → ComesTo b e units → IsListed b e → PlansKind narrow_kind b e result }

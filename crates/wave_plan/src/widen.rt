@@ -36,13 +36,7 @@ pub struct Widening {
 }
 
 // `ds64` with a body of `len` bytes: the sizes of the form and of `data`, the count of blocks, no rows, and zeros.
-fn ds64_bytes(
-    alloc: Global,
-    len: u64,
-    size: u64,
-    sound: u64,
-    count: u64,
-) -> Result<Bytes, NoMemory>
+fn ds64_bytes(alloc: Global, len: u64, size: u64, sound: u64, count: u64) -> Result<Bytes, NoMemory>
     requires low { 28 ≤ len }
     requires high { len ≤ 2 ^ 24 }
     ensures { IfOk result (λ bytes. bytes ≡ codes "ds64" ++ (to_le_bytes w32 len ++ ds64_body len size sound count)) }

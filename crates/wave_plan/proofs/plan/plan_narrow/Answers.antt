@@ -1,4 +1,4 @@
-use Rattle.std.proofs.Common.{rules, arith, subst, sym, ap, ◌∙◌, ◌≡◌, ◌+◌, List, map, length, cond, refl}
+use Rattle.std.proofs.Common.{rules, subst, sym, ap, ◌∙◌, ◌≡◌, ◌+◌, List, map, length, cond, refl}
 use Rattle.std.specs.List.{flat_map}
 use Rattle.part_tree.specs.Large.{limited}
 use Rattle.container_model.specs.Splice.{splice}
@@ -8,7 +8,7 @@ use Rattle.unit_plan.specs.Cuts.{FitsIn, SpansAscend, cut_in, patch_of}
 use Rattle.unit_plan.specs.Planned as Units
 use Rattle.unit_plan.specs.Sized.{spliced_len}
 use Rattle.wave_plan.proofs.Answered.{file_fits, file_large, file_told, form_told, new_long, refuses}
-use Rattle.wave_plan.proofs.Numbers.{framed_ascend, framed_fits, moved_more, whole_ascend}
+use Rattle.wave_plan.proofs.Numbers.{framed_ascend, framed_fits}
 use Rattle.wave_plan.proofs.Told.{makes_new, size_told}
 use Rattle.wave_plan.proofs.plan.plan_narrow.Goals as goal
 

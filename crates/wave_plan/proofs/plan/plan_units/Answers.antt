@@ -1,4 +1,4 @@
-use Rattle.std.proofs.Common.{rules, arith, subst, sym, ap, ◌∙◌, ◌≡◌, ◌+◌, List, false}
+use Rattle.std.proofs.Common.{rules, arith, subst, sym, ap, ◌∙◌, ◌≡◌, List, false}
 use Rattle.wave_model.specs.Widen.{widens}
 use Rattle.unit_plan.specs.declared.cut.CutAt.{CutAt}
 use Rattle.unit_plan.specs.Cuts.{SpansAscend}

@@ -1,4 +1,4 @@
-use Rattle.std.proofs.Common.{arith, ◌≡◌, ◌≤◌, ◌+◌, ◌∷◌, drop, subst}
+use Rattle.std.proofs.Common.{arith, ◌≡◌, ◌+◌, ◌∷◌, drop, subst}
 use Rattle.unit_plan.specs.Cuts.{SpansAscend}
 use Rattle.unit_plan.proofs.Spans.{next_item}
 use Rattle.wave_plan.proofs.Placed.{ascend_inside}

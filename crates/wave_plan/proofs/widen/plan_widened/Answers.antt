@@ -1,4 +1,4 @@
-use Rattle.std.proofs.Common.{rules, arith, subst, sym, ap, ◌∙◌, ◌≡◌, ◌+◌, ◌-◌, ◌^◌, ℕ, List, map, length, [], ◌∷◌, refl}
+use Rattle.std.proofs.Common.{rules, subst, sym, ap, ◌∙◌, ◌≡◌, ◌+◌, ◌-◌, ◌^◌, ℕ, List, map, length, [], ◌∷◌, refl}
 use Rattle.std.specs.List.{flat_map}
 use Rattle.part_tree.specs.Large.{limited, first_above}
 use Rattle.container_model.specs.Splice.{splice}

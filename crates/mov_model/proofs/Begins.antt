@@ -13,7 +13,7 @@ use Rattle.container_model.specs.Chunk.{Form, riff, wide, short, long, to_end, h
 use Rattle.container_model.specs.Sizes.{top}
 use Rattle.container_model.proofs.Items.{same_true}
 use Rattle.container_model.proofs.Read.{Atom, AtomForm}
-use Rattle.mov_model.specs.Kind.{is_mov, begins_movie}
+use Rattle.mov_model.specs.Begins.{is_mov, begins_movie}
 
 -- the first four bytes of an atom
 abbrev word : Form → ℕ → List ℕ

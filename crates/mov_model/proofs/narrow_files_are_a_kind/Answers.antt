@@ -1,0 +1,5 @@
+use Rattle.mov_model.proofs.AsKind.{is_kind}
+use Rattle.mov_model.proofs.narrow_files_are_a_kind.Goals as goal
+
+pub returns : goal.returns
+returns c = is_kind

@@ -1,5 +1,0 @@
-use Rattle.mov_model.proofs.Fields.{edit_law}
-use Rattle.mov_model.proofs.new_is_edited.Goals as goal
-
-pub returns : goal.returns
-returns c = λ o e b s k l. edit_law o e b s k l
