@@ -1,7 +1,7 @@
-//! The editor of the metadata of WAVE and RF64 files: one call does all that the program does.
+//! The editor of the metadata of files: one call does all that the program does.
 //! It reads the words, settles the file after a crash, reads it, tells of it or edits it in place or by a new file, and prints
 //! one report.
-//! It knows no device.
+//! It knows no device, and no kind of files.
 #![tactic(auto)]
 
 mod change;
