@@ -120,8 +120,8 @@ edited_nothing o sup =
 
 -- The law, where there is no change or nothing is too large.
 pub whole_law : (o : List ℕ) (e : Changes) → IsBytes o → Supported o → CanSet e → (e ≡ none_done) ⊎ (first_above (all_sizes (movie_of o) e) ≡ None) → EditedBy o e (edited_file o e)
-whole_law o e bytes sup can (inl i) = subst (λ (x : Changes). EditedBy o x (edited_file o x)) (sym i) (subst (EditedBy o none_done) (sym (new_nothing o bytes sup)) (edited_nothing o sup))
-whole_law o e bytes sup can (inr none) = edited_law o e bytes sup can (fits_of (movie_of o) e none)
+whole_law o e bytes sup can (inl i) = subst (λ (x : Changes). EditedBy o x (edited_file o x)) (sym i) (subst (EditedBy o none_done) (sym (new_nothing o bytes sup.readable)) (edited_nothing o sup))
+whole_law o e bytes sup can (inr none) = edited_law o e bytes sup.readable can (fits_of (movie_of o) e none)
 
 -- The new file has a length that can be told.
 pub length_law : (o : List ℕ) (e : Changes) → first_above (all_sizes (movie_of o) e) ≡ None → length (edited_file o e) ≤ 2 ^ 63 - 1
