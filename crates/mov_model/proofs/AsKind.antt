@@ -43,7 +43,7 @@ use Rattle.mov_model.proofs.Why.{none_supported, supported_none}
 
 -- ---- an edit without effect
 
-no_changes : (o : List ℕ) (e : List EditItem) → effective (fields o) e ≡ [] → changes o e ≡ none_done
+pub no_changes : (o : List ℕ) (e : List EditItem) → effective (fields o) e ≡ [] → changes o e ≡ none_done
 no_changes o e none = ap (λ (items : List EditItem). changed_by (filter_map raw_item items)) none
 
 idle_file : (o : List ℕ) (e : List EditItem) → IsBytes o → Supported o → effective (fields o) e ≡ [] → new_file o e ≡ o
@@ -79,7 +79,7 @@ edited o e bytes s rules small =
     either (inl none) = inl (no_changes o e none)
     either (inr all) = inr all
 
-in_place : (o : List ℕ) (e : List EditItem) → IsBytes o → Supported o → has_room o e ≡ true → MakeInPlace o (new_file o e) (patches o e)
+pub in_place : (o : List ℕ) (e : List EditItem) → IsBytes o → Supported o → has_room o e ≡ true → MakeInPlace o (new_file o e) (patches o e)
 in_place o e bytes s room =
     record { makes = sym (patches_law o e bytes s.readable room); sound = patches_sound o e bytes s.readable room; few = omega (arith, patches_three o e bytes s.readable) }
 
@@ -92,7 +92,7 @@ no_larger o e small = go (tested o e small)
 
 -- ---- edits that come to the same
 
-all_effective : (f : FieldMap) (e : List EditItem) → effective f (effective f e) ≡ effective f e
+pub all_effective : (f : FieldMap) (e : List EditItem) → effective f (effective f e) ≡ effective f e
 all_effective f [] = refl
 all_effective f (i ∷ e) = go (has_effect f i) refl (all_effective f e)
   where
@@ -122,7 +122,7 @@ long_plain : (vs : List (List ℕ)) → AllByRecursion Long vs → AllByRecursio
 long_plain [] h = tt
 long_plain (v ∷ vs) h = (h.0, long_plain vs h.1)
 
-lawful : (o : List ℕ) → IsBytes o → Supported o → IsLawful (fields o)
+pub lawful : (o : List ℕ) → IsBytes o → Supported o → IsLawful (fields o)
 lawful o bytes s = record { bext = inr (λ field. refl); keys = λ name. go name (is_key_name name) }
   where
     long : (name : List ℕ) → AllByRecursion Long (values_of_key o name)

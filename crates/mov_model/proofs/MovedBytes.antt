@@ -1,7 +1,6 @@
 -- An atom whose chunk places are changed is spelled in bytes.
 use Rattle.std.proofs.Common.{◌≡◌, ℕ, zero, suc, Bool, true, false, cond, List, [], ◌∷◌, ◌++◌, length, map, take, drop, Option, Some, None, refl, sym, ap, subst, ◌∙◌, ltb}
 use Rattle.std.specs.Prelude.{codes}
-use Rattle.std.specs.Int.{to_be_bytes, w32, w64}
 use Rattle.std.specs.List.{AllByRecursion}
 use Rattle.container_model.proofs.Atoms.{atoms_give_back}
 use Rattle.container_model.proofs.Codec.{IsBytes, IsBytes-behind, IsBytes-drop, chunks_joined}
@@ -10,7 +9,7 @@ use Rattle.container_model.proofs.Fronts.{IsBytes-take}
 use Rattle.container_model.proofs.Moved.{atom_moves}
 use Rattle.container_model.specs.Atoms.{is}
 use Rattle.container_model.specs.Chunk.{Chunk, header_bytes, spell, spell_all}
-use Rattle.container_model.specs.Deep.{Whole, Whole_at, kids, mend, mend_at, with_kids}
+use Rattle.container_model.specs.Deep.{Whole, Whole_at, kids, mend, mend_at}
 use Rattle.container_model.specs.Rows.{Width, be32, be64, changed, changed_by}
 use Rattle.container_model.specs.Sizes.{atom_front, inside}
 use Rattle.mov_model.specs.Atoms.{Place, dinf, file, format, mdia, minf, moov, opens, stbl, trak, user_data}

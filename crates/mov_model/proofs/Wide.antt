@@ -1,13 +1,12 @@
 -- A table made wide: the same places, and the same bytes before and behind them.
-use Rattle.std.proofs.Common.{◌≡◌, ℕ, zero, suc, ◌+◌, ◌*◌, ◌^◌, ◌<◌, ◌≤◌, Bool, true, false, cond, List, [], ◌∷◌, ◌++◌, length, map, replicate, take, drop, refl, sym, ap, subst, ◌∙◌, append_assoc, arith, inl, inr}
+use Rattle.std.proofs.Common.{◌≡◌, ℕ, zero, suc, ◌+◌, ◌*◌, ◌^◌, ◌<◌, ◌≤◌, Bool, true, false, cond, List, [], ◌∷◌, ◌++◌, length, replicate, take, drop, refl, sym, ap, subst, ◌∙◌, arith, inl, inr}
 use Rattle.std.specs.Prelude.{codes, ◌⊎◌}
 use Rattle.std.specs.Int.{from_be_bytes, to_be_bytes, w32, w64}
 use Rattle.std.specs.List.{AllByRecursion}
 use Rattle.std.proofs.lemmas.Bool.{le-ltb}
 use Rattle.std.proofs.lemmas.List.{length-append, length-take, length-drop, length-replicate, take_at, drop_at, drop-drop}
 use Rattle.std.proofs.lemmas.Nat.{from_be_bytes-to_be_bytes_8}
-use Rattle.container_model.proofs.Codec.{IsBytes, IsBytes-behind, IsBytes-drop}
-use Rattle.container_model.proofs.Deep.{IsBytes-front}
+use Rattle.container_model.proofs.Codec.{IsBytes, IsBytes-drop}
 use Rattle.container_model.proofs.Fronts.{IsBytes-take}
 use Rattle.container_model.proofs.Items.{same_true}
 use Rattle.container_model.specs.Atoms.{is}
@@ -16,9 +15,9 @@ use Rattle.container_model.specs.Rows.{be32, be64, numbers, spelled}
 use Rattle.container_model.specs.Deep.{leaf}
 use Rattle.mov_model.specs.Atoms.{stbl}
 use Rattle.mov_model.specs.Widen.{wide_body, wide_table, wide_token, wide_zeros}
-use Rattle.sample_tables.proofs.Moved.{LongRows, long_rows}
-use Rattle.sample_tables.specs.Samples.{runs_in, samples, sizes_in}
-use Rattle.sample_tables.specs.Tables.{blank_rows, count, is_short_table, look_table, need, places_in, rows}
+use Rattle.sample_tables.proofs.Moved.{long_rows}
+use Rattle.sample_tables.specs.Samples.{runs_in, sizes_in}
+use Rattle.sample_tables.specs.Tables.{blank_rows, count, is_short_table, look_table, places_in, rows}
 
 pub join : (a b : List ℕ) → IsBytes a → IsBytes b → IsBytes (a ++ b)
 join [] b ha hb i = hb i

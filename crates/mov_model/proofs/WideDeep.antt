@@ -1,9 +1,9 @@
 -- A track with wide tables is read again: its atoms in their nesting, with the tables made wide.
-use Rattle.std.proofs.Common.{◌≡◌, ℕ, zero, suc, ◌+◌, ◌*◌, ◌^◌, ◌<◌, ◌≤◌, Bool, true, false, cond, List, [], ◌∷◌, ◌++◌, length, map, take, drop, Option, Some, None, refl, sym, ap, subst, ◌∙◌, append_assoc, arith, inl, inr}
+use Rattle.std.proofs.Common.{◌≡◌, ℕ, zero, suc, ◌+◌, ◌*◌, ◌^◌, ◌<◌, ◌≤◌, Bool, true, false, cond, List, [], ◌∷◌, ◌++◌, length, map, take, Option, Some, None, refl, sym, ap, subst, ◌∙◌, append_assoc, arith, inl, inr}
 use Rattle.std.specs.Prelude.{codes, ◌⊎◌}
 use Rattle.std.specs.Int.{to_be_bytes, w32, w64}
 use Rattle.std.specs.List.{AllByRecursion, flat_map}
-use Rattle.std.proofs.lemmas.List.{append-nil, length-append}
+use Rattle.std.proofs.lemmas.List.{length-append}
 use Rattle.std.proofs.lemmas.List.Concat.{flat_map-append}
 use Rattle.container_model.proofs.Atoms.{atoms_give_back}
 use Rattle.container_model.proofs.Codec.{IsBytes, IsBytes-behind, chunks_joined, chunks_read, chunks_spelled}
@@ -14,16 +14,15 @@ use Rattle.container_model.proofs.Items.{same_true}
 use Rattle.container_model.specs.Atoms.{is}
 use Rattle.container_model.specs.Chunk.{Chunk, Form, Head, Run, ends, header_bytes, long, pad_len, short, spell, spell_all, too_short}
 use Rattle.container_model.specs.Deep.{Leaf, Token, Whole, closed, kids, leaves, opened, stands, tokens, with_kids}
-use Rattle.container_model.specs.Items.{listed}
 use Rattle.container_model.specs.Sizes.{atom_front, inside}
 use Rattle.container_model.proofs.Walk.{all_join}
 use Rattle.container_model.specs.Walk.{nested}
 use Rattle.mov_model.specs.Atoms.{Place, dinf, file, format, mdia, minf, moov, opens, stbl, trak, user_data}
 use Rattle.mov_model.specs.Kept.{look}
-use Rattle.mov_model.specs.Reading.{names_of, once}
+use Rattle.mov_model.specs.Reading.{names_of}
 use Rattle.mov_model.specs.Tables.{in_stbl}
 use Rattle.mov_model.specs.Widen.{enter, entered, wide_at, wide_in, wide_leaf, wide_table, wide_token, wide_tokens}
-use Rattle.mov_model.proofs.Wide.{WideTable, eight_bytes, four_bytes, join, none_bytes, token_wide, wide_tables}
+use Rattle.mov_model.proofs.Wide.{eight_bytes, four_bytes, join, none_bytes, token_wide, wide_tables}
 use Rattle.sample_tables.specs.Tables.{is_short_table}
 
 -- ---- bytes of an atom

@@ -1,32 +1,27 @@
 -- A movie with wide tables is read again, has the same fields, and its tables find the same.
-use Rattle.std.proofs.Common.{Bool, List, None, Option, Some, [], ap, append_assoc, arith, cond, drop, false, inl, inr, length, ltb, map, refl, subst, sym, take, true, ℕ, ◌*◌, ◌++◌, ◌+◌, ◌-◌, ◌<◌, ◌^◌, ◌∙◌, ◌∷◌, ◌≡◌, ◌≤◌}
-use Rattle.std.specs.Prelude.{codes, ◌||◌, ◌⊎◌}
-use Rattle.std.proofs.lemmas.Bool.{cond-true, le-ltb, lt-ltb}
+use Rattle.std.proofs.Common.{Bool, List, None, Option, Some, [], ap, arith, cond, false, length, map, refl, subst, sym, take, true, ℕ, ◌++◌, ◌+◌, ◌<◌, ◌^◌, ◌∙◌, ◌∷◌, ◌≡◌, ◌≤◌}
+use Rattle.std.specs.Prelude.{codes}
 use Rattle.std.proofs.lemmas.List.{append-nil, length-append}
 use Rattle.std.proofs.lemmas.List.Concat.{flat_map-append}
-use Rattle.std.specs.List.{AllByRecursion, flat_map, list_any}
+use Rattle.std.specs.List.{AllByRecursion, flat_map}
 use Rattle.std.specs.Str.{bytes_eq}
 use Rattle.container_model.proofs.Codec.{IsBytes, IsBytes-behind, chunks_spelled}
-use Rattle.container_model.proofs.Deep.{Alike, IsBytes-front, all_len, bytes_of}
-use Rattle.container_model.proofs.Items.{same_true}
+use Rattle.container_model.proofs.Deep.{IsBytes-front, all_len, bytes_of}
 use Rattle.container_model.proofs.Read.{Atom, atom_stands_sized, atoms_again, atoms_and}
-use Rattle.container_model.proofs.Units.{spell_all-append}
 use Rattle.container_model.specs.Atoms.{atoms_in, is}
-use Rattle.container_model.specs.Chunk.{Chunk, Reads, Run, ends, header_bytes, spell, spell_all, too_short}
-use Rattle.container_model.specs.Deep.{Leaf, Token, Whole, leaves, stands, tokens}
+use Rattle.container_model.specs.Chunk.{Chunk, Run, ends, header_bytes, spell, spell_all}
+use Rattle.container_model.specs.Deep.{Leaf, Whole, leaves}
 use Rattle.container_model.specs.Sizes.{atom_front, inside, top}
-use Rattle.container_model.specs.Units.{solids}
-use Rattle.mov_model.specs.Atoms.{Place, dinf, file, format, is_padding, mdia, minf, moov, opens, stbl, trak, user_data}
+use Rattle.mov_model.specs.Atoms.{Place, dinf, file, format, mdia, minf, moov, opens, stbl, trak, user_data}
 use Rattle.mov_model.specs.Movie.{Movie, all_atoms, movie_of, spell_movie, split, top_run}
-use Rattle.mov_model.specs.Parts.{first_of, has_id, parts, track_of, tracks}
-use Rattle.mov_model.specs.Support.{Readable, TrackFine, is_refused}
+use Rattle.mov_model.specs.Parts.{first_of, track_of}
+use Rattle.mov_model.specs.Support.{Readable}
 use Rattle.mov_model.specs.Tables.{in_dinf, in_stbl, references, relocated, tables}
 use Rattle.mov_model.specs.Widen.{growth, moov_end, past_moov, wide_at, wide_atom, wide_in, wide_moov, wide_table, widened, widened_file}
-use Rattle.mov_model.proofs.Again.{Kid, at_moov, before_read, file_bytes, kids, kids_all_bytes, kids_alike, kids_both, kids_bytes, kids_joined, kids_moved, kids_read, moov_left, moov_padless, mov, split_again, top_bytes, whole, whole_kids}
+use Rattle.mov_model.proofs.Again.{Kid, at_moov, before_read, kids, kids_all_bytes, kids_alike, kids_both, kids_joined, kids_moved, kids_read, moov_left, mov, split_again, whole, whole_kids}
 use Rattle.mov_model.proofs.Carry.{Sort, strip}
 use Rattle.mov_model.proofs.Kids.{KidOk, kids_ok, track_from}
-use Rattle.mov_model.proofs.Wide.{join, none_bytes, wide_tables}
-use Rattle.mov_model.proofs.WideDeep.{AllReady, AllWide, LongLeaves, Ready, Wide, all_wide, tables_of, wide_deep, wide_of}
+use Rattle.mov_model.proofs.WideDeep.{AllWide, LongLeaves, Wide, all_wide, tables_of, wide_deep, wide_of}
 use Rattle.mov_model.proofs.Why.{kids_supported}
 use Rattle.sample_tables.specs.Tables.{is_short_table}
 
@@ -55,7 +50,7 @@ wide_other c e = rw e refl
 
 -- a sort of atoms that are no tracks
 module _ (sort : Chunk → Bool) (s : Sort sort) where
-  sort_wide : (c : Chunk) → sort (wide_atom c) ≡ sort c
+  pub sort_wide : (c : Chunk) → sort (wide_atom c) ≡ sort c
   sort_wide c = go (is c (codes "trak")) refl
     where
       go : (t : Bool) → is c (codes "trak") ≡ t → sort (wide_atom c) ≡ sort c
@@ -132,9 +127,10 @@ each_wide : (cs : List Chunk) → AllByRecursion KidOk cs → AllByRecursion (At
 each_wide [] k a b w s = tt
 each_wide (c ∷ cs) k a b w s =
     let len = length-append (spell c) (spell_all cs) in
-    let body : length c.body ≤ length (spell c) = omega (arith, length-append (header_bytes c.form c.id (length c.body)) (c.body ++ c.pad), length-append c.body c.pad) in
-    (wide_deep 5 moov c (record { read = a.0; bytes = IsBytes-front (spell c) (spell_all cs) b; whole = w.0; tables = (track_from c k.0).long_tables; small = omega (arith, s, len, body) }),
-      each_wide cs k.1 a.1 (IsBytes-behind (spell c) (spell_all cs) b) w.1 (omega (arith, s, len)))
+    let body : length c.body ≤ length (spell c) = omega (arith, length-append (header_bytes c.form c.id (length c.body)) (c.body ++ c.pad), length-append c.body c.pad) in (
+      wide_deep 5 moov c (record { read = a.0; bytes = IsBytes-front (spell c) (spell_all cs) b; whole = w.0; tables = (track_from c k.0).long_tables; small = omega (arith, s, len, body) }),
+      each_wide cs k.1 a.1 (IsBytes-behind (spell c) (spell_all cs) b) w.1 (omega (arith, s, len)),
+    )
 
 module _ (o : List ℕ) (bytes : IsBytes o) (sup : Readable o) (small : length (spell (movie_of o).movie) ≤ 2 ^ 26) where
   abbrev pub old : Movie

@@ -1,12 +1,13 @@
 -- A movie whose chunk places pass 32 bits: each `stco` of a track becomes `co64`, with the same places in eight bytes each (QuickTime File Format, chunk offset atoms; when it is done is this project's own).
 use Rattle.std.specs.Int.{from_be_bytes, w32}
-use Rattle.std.specs.Prelude.{Bool, List, None, Option, Some, [], codes, drop, if◌then◌else◌, length, map, nat_lt, replicate, suc, take, zero, ℕ, ◌*◌, ◌++◌, ◌+◌, ◌-◌, ◌∷◌}
+use Rattle.std.specs.Prelude.{List, None, Option, Some, [], codes, drop, if◌then◌else◌, length, map, nat_lt, replicate, suc, take, zero, ℕ, ◌*◌, ◌++◌, ◌+◌, ◌-◌, ◌∷◌}
 use Rattle.std.specs.Str.{bytes_eq}
 use Rattle.container_model.specs.Atoms.{atoms_in, is}
 use Rattle.container_model.specs.Chunk.{Chunk, Form, spell, spell_all}
 use Rattle.container_model.specs.Deep.{Token, closed, kids, leaf, mark, opened, with_kids}
 use Rattle.container_model.specs.Rows.{be32, be64, spelled}
 use Rattle.mov_model.specs.Atoms.{Place, format, moov, opens, stbl}
+use Rattle.mov_model.specs.Kept.{Kept, Node, keyed, other, user}
 use Rattle.mov_model.specs.Movie.{Movie, movie_of, spell_movie}
 use Rattle.mov_model.specs.Tables.{relocated}
 use Rattle.sample_tables.specs.Tables.{count, rows}
@@ -104,3 +105,13 @@ wide_tokens ps (opened form id word ∷ ts) = opened form id word ∷ wide_token
 wide_tokens ps (closed rest ∷ ts) = closed rest ∷ wide_tokens (leave ps) ts
 wide_tokens ps (leaf form id body ∷ ts) = wide_token_in ps form id body ∷ wide_tokens ps ts
 wide_tokens ps (mark name ∷ ts) = mark name ∷ wide_tokens ps ts
+
+-- an atom of moov that is kept, with wide tables
+abbrev pub wide_node : Node → Node
+wide_node (other ts) = other (wide_tokens (moov ∷ []) ts)
+wide_node (user form ts rest) = user form ts rest
+wide_node (keyed form t) = keyed form t
+
+-- what is kept of a movie, with wide tables
+abbrev pub wide_kept : Kept → Kept
+wide_kept k = record k { inside = map wide_node k.inside }
