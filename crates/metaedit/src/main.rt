@@ -1,9 +1,9 @@
 // Edits the metadata of WAVE, RF64 and BW64 files: `metaedit set FILE NAME=VALUE..`.
 #![tactic(auto)]
 
-use metaedit_main::run;
+use metaedit_top::run_program;
 use std::process::ExitCode;
 
 fn main(rt: HostRuntime) -> ExitCode {
-    ExitCode::from(run(rt))
+    ExitCode::from(run_program(rt))
 }

@@ -1,11 +1,12 @@
 //! The editor of the metadata of files: one call does all that the program does.
 //! It reads the words, settles the file after a crash, reads it, tells of it or edits it in place or by a new file, and prints
 //! one report.
-//! It knows no device, and no kind of files.
+//! It knows no kind of files, and but for `run_program`, which makes the devices, no device.
 #![tactic(auto)]
 
 mod change;
 mod outcome;
+mod program;
 mod run;
 mod set;
 mod started;
@@ -21,6 +22,7 @@ mod words;
 pub use me_report::Summary;
 pub use outcome::{Outcome, UsageFault};
 pub use part_tree::Why;
+pub use program::run_program;
 pub use started::{StartFault, file_of, finish, start_code, words_of};
 pub use text::{code, line_of};
 pub use top::metaedit;

@@ -1,16 +1,15 @@
-//! The whole program over the objects of the system: it makes the devices, and calls the editor with them.
-//! What goes into the editor and what comes out of it is said by the functions that it calls: `words_of`, `file_of`,
-//! `metaedit`, `finish` and `start_code`.
-#![tactic(auto)]
+// The whole program over the objects of the system: it makes the devices, and calls the editor with them. What goes into
+// the editor and what comes out of it is said by the functions that it calls.
 
+use crate::started::{StartFault, file_of, finish, start_code, words_of};
+use crate::top::metaedit;
 use folder_depot::{ClosedStreams, PathDepot};
 use me_disk::{StdSink, StdSource};
-use metaedit_top::{StartFault, file_of, finish, metaedit, start_code, words_of};
 use std::env;
 use std::rt::Env;
 
 /// Runs the program, and gives its status.
-pub fn run(rt: HostRuntime) -> u8 {
+pub fn run_program(rt: HostRuntime) -> u8 {
     // without the device that fills them they stay closed
     let _filled = ClosedStreams::fill(&rt);
     match run_words(rt) {
