@@ -3,7 +3,13 @@
 //! never the essence.
 #![tactic(auto)]
 
+mod chunks;
+mod fields;
 mod holder;
+mod map;
+mod moov;
+mod movie;
+mod range;
 mod reading;
 mod refusals;
 mod tables;
@@ -12,5 +18,7 @@ mod tests;
 mod walk;
 
 pub use holder::Holder;
-pub use reading::Reading;
+pub use map::MovMap;
+pub use movie::read_mov;
+pub use reading::{Reading, Tables};
 pub use walk::{walk_file, walk_moov};
