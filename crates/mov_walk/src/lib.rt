@@ -4,12 +4,8 @@
 #![tactic(auto)]
 
 mod chunks;
-mod fields;
 mod holder;
-mod map;
 mod moov;
-mod movie;
-mod range;
 mod reading;
 mod refusals;
 mod tables;
@@ -17,8 +13,8 @@ mod tables;
 mod tests;
 mod walk;
 
+pub use chunks::astray_in;
 pub use holder::Holder;
-pub use map::MovMap;
-pub use movie::read_mov;
-pub use reading::{Reading, Tables};
+pub use moov::{begins, find_moov};
+pub use reading::Reading;
 pub use walk::{walk_file, walk_moov};

@@ -14,15 +14,6 @@ use part_tree::{FourCc, NoMemory, Part, Role, Span};
 use qt_atoms::AtomAt;
 use std::alloc::Global;
 
-/// The bodies of a track's tables, the first of each: of chunk places in four or in eight bytes, of runs, and of sizes.
-#[derive(Clone, Copy, Debug, PartialEq, Eq)]
-pub struct Tables {
-    pub narrow: Option<Span>,
-    pub wide: Option<Span>,
-    pub runs: Option<Span>,
-    pub sizes: Option<Span>,
-}
-
 /// What was met so far: how many atoms, whether a `moov` and user data were among them, the number of the track that is read,
 /// from 1, the names that were met in it, all parts, and the bodies that hold the essence.
 #[derive(Debug, Drop)]
@@ -34,7 +25,6 @@ pub struct Reading {
     pub names: Vec<FourCc>,
     pub parts: Vec<Part>,
     pub mdats: Vec<Span>,
-    pub tracks: Vec<Tables>,
 }
 
 impl Reading {
@@ -54,7 +44,6 @@ impl Reading {
             names: Vec::new(alloc),
             parts: Vec::new(alloc),
             mdats: Vec::new(alloc),
-            tracks: Vec::new(alloc),
         }
     }
 }
@@ -171,51 +160,6 @@ fn track_after(track: u32, holder: Holder, kind: FourCc) -> u32
     }
 }
 
-// Keeps the first.
-fn keep_first(kept: Option<Span>, is: bool, body: Span) -> Option<Span>
-{
-    match kept {
-        Some(span) => Some(span),
-        None => { if is { Some(body) } else { None } }
-    }
-}
-
-// The tables of a track, with an atom in `stbl`.
-fn with_table(tables: Tables, kind: FourCc, body: Span) -> Tables
-{
-    Tables {
-        narrow: keep_first(tables.narrow, kind.is(b"stco"), body),
-        wide: keep_first(tables.wide, kind.is(b"co64"), body),
-        runs: keep_first(tables.runs, kind.is(b"stsc"), body),
-        sizes: keep_first(tables.sizes, kind.is(b"stsz"), body),
-    }
-}
-
-// A track is begun, or the last one gets a table.
-fn keep_table(tracks: &mut Vec<Tables>, holder: Holder, atom: &AtomAt) -> Result<(), NoMemory>
-{
-    match holder {
-        Holder::Moov => {
-            if !atom.kind.is(b"trak") {
-                return Ok(());
-            }
-            let none = Tables { narrow: None, wide: None, runs: None, sizes: None };
-            match tracks.push(none) {
-                Err(_) => Err(NoMemory),
-                Ok(()) => Ok(()),
-            }
-        }
-        Holder::Stbl => {
-            let count = tracks.len();
-            if count > 0 {
-                tracks[count - 1] = with_table(tracks[count - 1], atom.kind, atom.body);
-            }
-            Ok(())
-        }
-        _ => Ok(()),
-    }
-}
-
 // Takes an atom to what was met.
 pub fn remember(reading: &mut Reading, holder: Holder, atom: &AtomAt) -> Result<(), NoMemory>
     requires few { Few reading.old }
@@ -236,7 +180,6 @@ pub fn remember(reading: &mut Reading, holder: Holder, atom: &AtomAt) -> Result<
     }
     keep_essence(&mut reading.mdats, holder, atom)?;
     keep_name(&mut reading.names, holder, atom.kind)?;
-    keep_table(&mut reading.tracks, holder, atom)?;
     reading.count += 1;
     reading.has_moov = reading.has_moov | is_of_file(holder, atom.kind.is(b"moov"));
     reading.has_user = reading.has_user | is_of_moov(holder, atom.kind.is(b"udta"));
