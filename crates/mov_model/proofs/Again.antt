@@ -32,7 +32,7 @@ use Rattle.qt_keys.specs.Table.{table_bytes}
 use Rattle.mov_model.specs.Movie.{Movie, all_atoms, movie_of, spell_movie, split, split_by, top_run}
 use Rattle.mov_model.specs.New.{edit_cuts, ends_file, fill, hanging, is_open, new_kids, new_movie, padding, padding_behind, past_gaps, pieces_of, rest_behind, whole_pieces}
 use Rattle.mov_model.specs.Parts.{first_of, has_id}
-use Rattle.mov_model.specs.Support.{Supported}
+use Rattle.mov_model.specs.Support.{Readable}
 use Rattle.mov_model.specs.Tables.{relocated}
 use Rattle.qt_text.specs.User.{udta, user_items}
 
@@ -126,11 +126,11 @@ module _ (f : ℕ → ℕ) where
       let head : Head atom_front inside inside d = λ after. rw (a.form_is, a.id_is, a.len_is) (h.head after) in
       record { head = head; no_pad = a.pad_is ∙ h.no_pad; pad_none = rw (a.form_is, a.len_is) h.pad_none; id_len = rw a.id_is h.id_len; short_or_long = rw a.form_is h.short_or_long }
 
-  kids_moved : (cs : List Chunk) → AllByRecursion (Kid f) cs → AllByRecursion (Atom inside) (map (relocated f) cs)
+  pub kids_moved : (cs : List Chunk) → AllByRecursion (Kid f) cs → AllByRecursion (Atom inside) (map (relocated f) cs)
   kids_moved [] h = tt
   kids_moved (c ∷ cs) h = (kid_alike c (relocated f c) h.0.alike h.0.read, kids_moved cs h.1)
 
-  kids_alike : (cs : List Chunk) → AllByRecursion (Kid f) cs → AllByRecursion (λ c. Alike c (relocated f c)) cs
+  pub kids_alike : (cs : List Chunk) → AllByRecursion (Kid f) cs → AllByRecursion (λ c. Alike c (relocated f c)) cs
   kids_alike [] h = tt
   kids_alike (c ∷ cs) h = (h.0.alike, kids_alike cs h.1)
 
@@ -158,7 +158,7 @@ whole_kids (c ∷ cs) h = go (is_padding c.id) refl h (whole_kids cs)
     go false e h again = (h.0, again h.1)
 
 module _ (f : ℕ → ℕ) where
-  kids_both : (cs : List Chunk) → AllByRecursion (Atom inside) cs → AllByRecursion (λ c. IsBytes c.body) cs → AllByRecursion (Whole format 5 moov) cs → AllByRecursion (Kid f) cs
+  pub kids_both : (cs : List Chunk) → AllByRecursion (Atom inside) cs → AllByRecursion (λ c. IsBytes c.body) cs → AllByRecursion (Whole format 5 moov) cs → AllByRecursion (Kid f) cs
   kids_both [] h b w = tt
   kids_both (c ∷ cs) h b w = (record { read = h.0; alike = relocated_alike f c w.0 b.0 }, kids_both cs h.1 b.1 w.1)
 
@@ -174,7 +174,7 @@ no_atoms (c ∷ cs) left n = absurd (omega (arith, ap length n, as_many (c ∷ c
 
 -- ---- what is known of a supported movie
 
-module _ (o : List ℕ) (bytes : IsBytes o) (sup : Supported o) where
+module _ (o : List ℕ) (bytes : IsBytes o) (sup : Readable o) where
   abbrev pub mov : Movie
   mov = movie_of o
 
@@ -184,7 +184,7 @@ module _ (o : List ℕ) (bytes : IsBytes o) (sup : Supported o) where
   pub file_bytes : spell_movie mov ≡ o
   file_bytes = rw (whole.0, whole.1) (chunks_joined atom_front atoms_give_back top o bytes)
 
-  top_bytes : IsBytes (spell_all (mov.before ++ mov.movie ∷ mov.behind) ++ mov.left)
+  pub top_bytes : IsBytes (spell_all (mov.before ++ mov.movie ∷ mov.behind) ++ mov.left)
   top_bytes = rw file_bytes bytes
 
   top_reads : Reads atom_front top (mov.before ++ mov.movie ∷ mov.behind) mov.left
@@ -208,7 +208,7 @@ module _ (o : List ℕ) (bytes : IsBytes o) (sup : Supported o) where
   pub kids_joined : spell_all kids ++ moov_left ≡ mov.movie.body
   kids_joined = chunks_joined atom_front atoms_give_back inside mov.movie.body moov_bytes
 
-  kids_all_bytes : IsBytes (spell_all kids ++ moov_left)
+  pub kids_all_bytes : IsBytes (spell_all kids ++ moov_left)
   kids_all_bytes = rw kids_joined moov_bytes
 
   pub kids_bytes : AllByRecursion (λ c. IsBytes c.body) kids

@@ -43,11 +43,11 @@ use Rattle.mov_model.proofs.Why.{none_supported, supported_none}
 
 -- ---- an edit without effect
 
-no_changes : (o : List ℕ) (e : List EditItem) → effective (fields o) e ≡ [] → changes o e ≡ none_done
+pub no_changes : (o : List ℕ) (e : List EditItem) → effective (fields o) e ≡ [] → changes o e ≡ none_done
 no_changes o e none = ap (λ (items : List EditItem). changed_by (filter_map raw_item items)) none
 
 idle_file : (o : List ℕ) (e : List EditItem) → IsBytes o → Supported o → effective (fields o) e ≡ [] → new_file o e ≡ o
-idle_file o e bytes s none = ap (edited_file o) (no_changes o e none) ∙ new_nothing o bytes s
+idle_file o e bytes s none = ap (edited_file o) (no_changes o e none) ∙ new_nothing o bytes s.readable
 
 idle_size : (o : List ℕ) (e : List EditItem) → effective (fields o) e ≡ [] → too_large o e ≡ None
 idle_size o e none = ap (large_by (movie_of o) (changes o e)) none
@@ -79,9 +79,9 @@ edited o e bytes s rules small =
     either (inl none) = inl (no_changes o e none)
     either (inr all) = inr all
 
-in_place : (o : List ℕ) (e : List EditItem) → IsBytes o → Supported o → has_room o e ≡ true → MakeInPlace o (new_file o e) (patches o e)
+pub in_place : (o : List ℕ) (e : List EditItem) → IsBytes o → Supported o → has_room o e ≡ true → MakeInPlace o (new_file o e) (patches o e)
 in_place o e bytes s room =
-    record { makes = sym (patches_law o e bytes s room); sound = patches_sound o e bytes s room; few = omega (arith, patches_three o e bytes s) }
+    record { makes = sym (patches_law o e bytes s.readable room); sound = patches_sound o e bytes s.readable room; few = omega (arith, patches_three o e bytes s.readable) }
 
 no_larger : (o : List ℕ) (e : List EditItem) → too_large o e ≡ None → (effective (fields o) e ≡ []) ⊎ (length (new_file o e) ≤ 2 ^ 63 - 1)
 no_larger o e small = go (tested o e small)
@@ -92,7 +92,7 @@ no_larger o e small = go (tested o e small)
 
 -- ---- edits that come to the same
 
-all_effective : (f : FieldMap) (e : List EditItem) → effective f (effective f e) ≡ effective f e
+pub all_effective : (f : FieldMap) (e : List EditItem) → effective f (effective f e) ≡ effective f e
 all_effective f [] = refl
 all_effective f (i ∷ e) = go (has_effect f i) refl (all_effective f e)
   where
@@ -122,13 +122,13 @@ long_plain : (vs : List (List ℕ)) → AllByRecursion Long vs → AllByRecursio
 long_plain [] h = tt
 long_plain (v ∷ vs) h = (h.0, long_plain vs h.1)
 
-lawful : (o : List ℕ) → IsBytes o → Supported o → IsLawful (fields o)
+pub lawful : (o : List ℕ) → IsBytes o → Supported o → IsLawful (fields o)
 lawful o bytes s = record { bext = inr (λ field. refl); keys = λ name. go name (is_key_name name) }
   where
     long : (name : List ℕ) → AllByRecursion Long (values_of_key o name)
     long name =
         let cs = parts (movie_of o) in
-        let all = all_solids (λ c. IsBytes c.body) (λ c b. b) (kids o bytes s) (kids_bytes o bytes s) in
+        let all = all_solids (λ c. IsBytes c.body) (λ c b. b) (kids o bytes s.readable) (kids_bytes o bytes s.readable) in
         subst (λ (t : KeyTable). AllByRecursion Long (key_values name t)) (sym (first_table_is cs)) (first_long (first_of is_meta cs) name (always is_meta cs) (first_all is_meta (λ c. IsBytes c.body) (λ c. IsBytes c.body) (λ c m b. b) cs all))
 
     go : (name : List ℕ) (t : Bool) → AllByRecursion HasKeyHead (cond t (map plain (values_of_key o name)) [])

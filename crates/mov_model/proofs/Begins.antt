@@ -56,7 +56,7 @@ first_type c more (inr (inr e)) l =
     ap (λ (b : List ℕ). take 4 (drop 4 b)) split ∙ ap (take 4) (drop_at head (c.id ++ rest) 4 refl) ∙ take_at c.id rest 4 l
 
 -- a small number spells no form's word
-other_word : (n k : ℕ) (w : List ℕ) → n ≤ 2 ^ 26 → from_be_bytes w32 w ≡ k → 2 ^ 26 < k → bytes_eq (to_be_bytes w32 n) w ≡ false
+other_word : (n k : ℕ) (w : List ℕ) → n ≤ 2 ^ 28 → from_be_bytes w32 w ≡ k → 2 ^ 28 < k → bytes_eq (to_be_bytes w32 n) w ≡ false
 other_word n k w le e lt = go (bytes_eq (to_be_bytes w32 n) w) refl
   where
     go : (t : Bool) → bytes_eq (to_be_bytes w32 n) w ≡ t → t ≡ false
@@ -70,10 +70,10 @@ other_word n k w le e lt = go (bytes_eq (to_be_bytes w32 n) w) refl
 abbrev NoForm : List ℕ → Type 0
 NoForm w = (bytes_eq w (codes "RIFF") ≡ false) × (bytes_eq w (codes "RF64") ≡ false) × (bytes_eq w (codes "BW64") ≡ false)
 
-no_form : (n : ℕ) → n ≤ 2 ^ 26 → NoForm (to_be_bytes w32 n)
+no_form : (n : ℕ) → n ≤ 2 ^ 28 → NoForm (to_be_bytes w32 n)
 no_form n le = (other_word n 1380533830 (codes "RIFF") le refl (omega arith), other_word n 1380333108 (codes "RF64") le refl (omega arith), other_word n 1113011764 (codes "BW64") le refl (omega arith))
 
-small_word : (form : Form) (n : ℕ) → AtomForm form → (form ≡ short → n + 8 ≤ 2 ^ 26) → NoForm (word form n)
+small_word : (form : Form) (n : ℕ) → AtomForm form → (form ≡ short → n + 8 ≤ 2 ^ 28) → NoForm (word form n)
 small_word form n (inl e) le = subst (λ (g : Form). NoForm (word g n)) (sym e) (no_form (n + 8) (le e))
 small_word form n (inr (inl e)) le = subst (λ (g : Form). NoForm (word g n)) (sym e) (no_form 1 (omega arith))
 small_word form n (inr (inr e)) le = subst (λ (g : Form). NoForm (word g n)) (sym e) (no_form 0 (omega arith))
@@ -103,11 +103,11 @@ movie_parts b h = go (is_form_of (codes "RIFF") (codes "WAVE") b) (is_form_of (c
 other_by : (b : List ℕ) → NoForm (take 4 b) → IsOther b
 other_by b n = record { wave = rw n.0 refl; rf64 = rw n.1 refl; bw64 = rw n.2 refl; avi = rw n.0 refl }
 
-small_other : (c : Chunk) (more : List ℕ) → AtomForm c.form → (c.form ≡ short → length c.body + 8 ≤ 2 ^ 26) → IsOther (spell c ++ more)
+small_other : (c : Chunk) (more : List ℕ) → AtomForm c.form → (c.form ≡ short → length c.body + 8 ≤ 2 ^ 28) → IsOther (spell c ++ more)
 small_other c more form le = other_by (spell c ++ more) (subst NoForm (sym (first_word c more form)) (small_word c.form (length c.body) form le))
 
 -- a file that begins with a small moov
-pub moov_first : (c : Chunk) (more : List ℕ) → AtomForm c.form → c.id ≡ codes "moov" → length c.body + 8 ≤ 2 ^ 26 → begins_movie (spell c ++ more) ≡ true
+pub moov_first : (c : Chunk) (more : List ℕ) → AtomForm c.form → c.id ≡ codes "moov" → length c.body + 8 ≤ 2 ^ 28 → begins_movie (spell c ++ more) ≡ true
 moov_first c more form id le =
     let four : length c.id ≡ 4 = ap length id in
     movie_by (spell c ++ more) (small_other c more form (λ e. le)) (ap (λ (t : List ℕ). list_any (bytes_eq t) movie_types) (first_type c more form four ∙ id))
@@ -131,7 +131,7 @@ same_first c more other a h =
     old : IsOther (spell c ++ more) × (is_movie (spell c ++ more) ≡ true)
     old = movie_parts (spell c ++ more) h
 
-    low : length (spell c) < 12 → c.form ≡ short → length c.body + 8 ≤ 2 ^ 26
+    low : length (spell c) < 12 → c.form ≡ short → length c.body + 8 ≤ 2 ^ 28
     low lt e = omega (arith, length-append (header_bytes c.form c.id (length c.body)) (c.body ++ c.pad), length-append c.body c.pad)
 
     same_form : (id word : List ℕ) → 12 ≤ length (spell c) → is_form_of id word (spell c ++ other) ≡ is_form_of id word (spell c ++ more)

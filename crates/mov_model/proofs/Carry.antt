@@ -95,7 +95,7 @@ padding_not is s c e = go (is c) refl
     go true i = let no = s.no_padding c i in absurd cc
     go false i = refl
 
-track_not : (is : Chunk → Bool) → Sort is → (c : Chunk) → Rattle.container_model.specs.Atoms.is c (codes "trak") ≡ true → is c ≡ false
+pub track_not : (is : Chunk → Bool) → Sort is → (c : Chunk) → Rattle.container_model.specs.Atoms.is c (codes "trak") ≡ true → is c ≡ false
 track_not is s c e = go (is c) refl
   where
     go : (t : Bool) → is c ≡ t → t ≡ false

@@ -45,7 +45,7 @@ use Rattle.mov_model.specs.Movie.{Movie, all_atoms}
 use Rattle.mov_model.specs.New.{edit_cuts, ends_file, ends_open, fill, gaps_of, grown, hanging, is_open, kids_at, new_kids, padding, padding_behind, past_gaps, pieces_of, rest_behind, slot_behind, whole_pieces}
 use Rattle.mov_model.specs.Parts.{first_items, first_of, parts, track_of, tracks}
 use Rattle.mov_model.specs.Pieces.{held, is_mdat, pieces_by, pieces_in, tail_of, track_pieces}
-use Rattle.mov_model.specs.Support.{IsHeld, Supported, TrackFine}
+use Rattle.mov_model.specs.Support.{IsHeld, Readable, TrackFine}
 use Rattle.mov_model.specs.Tables.{relocated, tables}
 use Rattle.sample_tables.specs.Tables.{moved_table, FitsRows, places}
 use Rattle.qt_text.specs.User.{user_items}
@@ -211,7 +211,7 @@ ascend_more : (from low high : ℕ) (cs : List Cut) → low ≤ high → Ascend 
 ascend_more from low high [] le h = omega arith
 ascend_more from low high (c ∷ cs) le h = (h.0, ascend_more (end_of c) low high cs le h.1)
 
-held_inside : (k p : ℕ) (x : ℕ × List ℕ) (cs : List Chunk) → held k p cs ≡ Some x → p < length (spell_all cs)
+pub held_inside : (k p : ℕ) (x : ℕ × List ℕ) (cs : List Chunk) → held k p cs ≡ Some x → p < length (spell_all cs)
 held_inside k p x [] h = absurd cc
 held_inside k p x (c ∷ cs) h = go (cases_lt p (length (spell c))) (λ g. held_inside (next_number c k) (p - length (spell c)) x cs g)
   where
@@ -219,7 +219,7 @@ held_inside k p x (c ∷ cs) h = go (cases_lt p (length (spell c))) (λ g. held_
     go (inl lt) again = omega (arith, length-append (spell c) (spell_all cs))
     go (inr le) again = omega (arith, again (sym (held_next k p c cs le) ∙ h), length-append (spell c) (spell_all cs))
 
-module _ (o : List ℕ) (bytes : IsBytes o) (sup : Supported o) (e : Changes) where
+module _ (o : List ℕ) (bytes : IsBytes o) (sup : Readable o) (e : Changes) where
   abbrev was : Movie
   was = mov o bytes sup
 
@@ -282,7 +282,7 @@ module _ (o : List ℕ) (bytes : IsBytes o) (sup : Supported o) (e : Changes) wh
 
 -- ---- the edit of a supported movie
 
-module _ (o : List ℕ) (bytes : IsBytes o) (sup : Supported o) (e : Changes) (can : CanSet e) (fits : Fits (mov o bytes sup) e) where
+module _ (o : List ℕ) (bytes : IsBytes o) (sup : Readable o) (e : Changes) (can : CanSet e) (fits : Fits (mov o bytes sup) e) where
   abbrev old : Movie
   old = mov o bytes sup
 

@@ -26,7 +26,7 @@ use Rattle.mov_model.specs.Movie.{Movie, movie_of, spell_movie}
 use Rattle.mov_model.specs.New.{edit_cuts, ends_file, ends_open, fill, gaps_of, grown, hanging, is_open, kids_at, edited_file, new_kids, new_movie, padding_behind, past_gaps, pieces_of, rest_behind, whole_pieces}
 use Rattle.mov_model.specs.Parts.{first_items, parts}
 use Rattle.mov_model.specs.Pieces.{pieces_in}
-use Rattle.mov_model.specs.Support.{Supported}
+use Rattle.mov_model.specs.Support.{Readable}
 use Rattle.mov_model.specs.Tables.{relocated}
 use Rattle.qt_text.specs.User.{user_items}
 
@@ -74,7 +74,7 @@ relocated_all f same (c ∷ cs) w b = rw (relocated_none f same c w.0 b.0, reloc
 abbrev pub none_done : Changes
 none_done = record { users = []; keys = [] }
 
-module _ (o : List ℕ) (bytes : IsBytes o) (sup : Supported o) where
+module _ (o : List ℕ) (bytes : IsBytes o) (sup : Readable o) where
   abbrev old : Movie
   old = mov o bytes sup
 
@@ -109,7 +109,7 @@ module _ (o : List ℕ) (bytes : IsBytes o) (sup : Supported o) where
   new_nothing = ap spell_movie movie_is ∙ file_bytes o bytes sup
 
 -- The law: the new file is the old one edited.
-pub edited_law : (o : List ℕ) (e : Changes) → IsBytes o → Supported o → CanSet e → Fits (movie_of o) e → EditedBy o e (edited_file o e)
+pub edited_law : (o : List ℕ) (e : Changes) → IsBytes o → Readable o → CanSet e → Fits (movie_of o) e → EditedBy o e (edited_file o e)
 unfolding edited_file
 edited_law o e bytes sup can fits =
     let again = movie_again o bytes sup e fits in

@@ -26,7 +26,7 @@ use Rattle.mov_model.specs.Movie.{Movie, all_atoms, movie_of}
 use Rattle.mov_model.specs.New.{padding, fill, gaps_of, grown, pieces_of, is_open, rest_behind, whole_pieces, ends_file, kids_at, edit_cuts, new_movie}
 use Rattle.mov_model.specs.Parts.{tracks}
 use Rattle.mov_model.specs.Pieces.{next_number, held_here, held}
-use Rattle.mov_model.specs.Support.{IsHeld, TrackFine, Supported}
+use Rattle.mov_model.specs.Support.{IsHeld, TrackFine, Readable}
 use Rattle.mov_model.specs.Edited.{changes, new_file}
 use Rattle.mov_model.specs.Cuts.{TablesStay, unit_cuts}
 use Rattle.carrier_model.specs.Room.{patch, unit_patches}
@@ -146,7 +146,7 @@ held_low k p (c ∷ cs) x e = go (cases_lt p (length (spell c))) (λ y. held_low
         let here : held (next_number c k) (p - length (spell c)) cs ≡ Some x = sym (cond-false (ltb p (length (spell c))) (held_here k p c) (held (next_number c k) (p - length (spell c)) cs) (Rattle.std.proofs.lemmas.Bool.le-ltb p (length (spell c)) le)) ∙ e in
         omega (arith, again here, length-append (spell c) (spell_all cs))
 
-module _ (o : List ℕ) (e : List EditItem) (bytes : IsBytes o) (sup : Supported o) (room : Room o e) where
+module _ (o : List ℕ) (e : List EditItem) (bytes : IsBytes o) (sup : Readable o) (room : Room o e) where
   abbrev m : Movie
   m = movie_of o
 

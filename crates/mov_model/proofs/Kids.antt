@@ -298,7 +298,7 @@ all_map : (P Q : Chunk → Type 0) → ((c : Chunk) → P c → Q c) → (cs : L
 all_map P Q f [] h = tt
 all_map P Q f (c ∷ cs) h = (f c h.0, all_map P Q f cs h.1)
 
-track_from : (t : Chunk) → KidOk t → TrackOk t
+pub track_from : (t : Chunk) → KidOk t → TrackOk t
 track_from t h =
     let l = leaves_ok (nested format 5 moov t) h.1.0.1 in
     let ts : AllByRecursion TableOk (tables t) = subst (AllByRecursion TableOk) (nested_leaves format in_stbl stbl_closed 5 moov t) l.0 in

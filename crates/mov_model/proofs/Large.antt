@@ -32,7 +32,7 @@ use Rattle.qt_text.specs.User.{udta, user_items}
 abbrev pub Within : List Size → Type 0
 Within ss = AllByRecursion (λ (s : Size). s.size ≤ s.limit) ss
 
-within : (ss : List Size) → first_above ss ≡ None → Within ss
+pub within : (ss : List Size) → first_above ss ≡ None → Within ss
 within [] e = tt
 within (s ∷ ss) e = go (is_above s) refl e (within ss)
   where
@@ -40,15 +40,15 @@ within (s ∷ ss) e = go (is_above s) refl e (within ss)
     go true p e again = absurd cc
     go false p e again = (ltb-false _ _ p, again e)
 
-within_both : (a b : List Size) → Within (a ++ b) → Within a × Within b
+pub within_both : (a b : List Size) → Within (a ++ b) → Within a × Within b
 within_both [] b h = (tt, h)
 within_both (s ∷ a) b h = let r = within_both a b h.1 in ((h.0, r.0), r.1)
 
-within_map : {X : Type 0} (f : X → Size) (xs : List X) → Within (map f xs) → AllByRecursion (λ x. (f x).size ≤ (f x).limit) xs
+pub within_map : {X : Type 0} (f : X → Size) (xs : List X) → Within (map f xs) → AllByRecursion (λ x. (f x).size ≤ (f x).limit) xs
 within_map f [] h = tt
 within_map f (x ∷ xs) h = (h.0, within_map f xs h.1)
 
-within_flat : {X : Type 0} (f : X → List Size) (xs : List X) → Within (flat_map f xs) → AllByRecursion (λ x. Within (f x)) xs
+pub within_flat : {X : Type 0} (f : X → List Size) (xs : List X) → Within (flat_map f xs) → AllByRecursion (λ x. Within (f x)) xs
 within_flat f [] h = tt
 within_flat f (x ∷ xs) h = let r = within_both (f x) (flat_map f xs) h in (r.0, within_flat f xs r.1)
 
@@ -74,7 +74,7 @@ rows_fit : (f : ℕ → ℕ) (cs : List Chunk) → AllByRecursion (λ c. Within 
 rows_fit f [] h = tt
 rows_fit f (c ∷ cs) h = (row_fits f c h.0, rows_fit f cs h.1)
 
-tracks_fit : (f : ℕ → ℕ) (ts : List Chunk) → AllByRecursion (λ (t : Chunk). Within (flat_map (row_sizes f) (tables t))) ts → AllByRecursion (λ t. AllByRecursion (FitsRows f) (tables t)) ts
+pub tracks_fit : (f : ℕ → ℕ) (ts : List Chunk) → AllByRecursion (λ (t : Chunk). Within (flat_map (row_sizes f) (tables t))) ts → AllByRecursion (λ t. AllByRecursion (FitsRows f) (tables t)) ts
 tracks_fit f [] h = tt
 tracks_fit f (t ∷ ts) h = (rows_fit f (tables t) (within_flat (row_sizes f) (tables t) h.0), tracks_fit f ts h.1)
 
@@ -83,7 +83,7 @@ if_within None h = tt
 if_within (Some c) h = h.0
 
 -- a carrier that is edited or new
-carrier_fits : (sort : Chunk → Bool) (g : Chunk → Chunk) (new : Option Chunk) (cs : List Chunk) → Within (map (λ c. body_size (g c)) (first_of sort cs) ++ cond (list_any sort cs) [] (map body_size (listed new)))
+pub carrier_fits : (sort : Chunk → Bool) (g : Chunk → Chunk) (new : Option Chunk) (cs : List Chunk) → Within (map (λ c. body_size (g c)) (first_of sort cs) ++ cond (list_any sort cs) [] (map body_size (listed new)))
     → AllByRecursion (λ c. SmallBody (g c)) (first_of sort cs) × (list_any sort cs ≡ false → IfSome new SmallBody)
 carrier_fits sort g new cs h =
     let u = within_both (map (λ c. body_size (g c)) (first_of sort cs)) _ h in
@@ -108,7 +108,7 @@ fits_of m e none =
     }
 
 -- nothing is done without an item
-edited_nothing : (o : List ℕ) → Supported o → EditedBy o none_done o
+pub edited_nothing : (o : List ℕ) → Supported o → EditedBy o none_done o
 edited_nothing o sup =
     record {
       supported = sup;
@@ -120,8 +120,8 @@ edited_nothing o sup =
 
 -- The law, where there is no change or nothing is too large.
 pub whole_law : (o : List ℕ) (e : Changes) → IsBytes o → Supported o → CanSet e → (e ≡ none_done) ⊎ (first_above (all_sizes (movie_of o) e) ≡ None) → EditedBy o e (edited_file o e)
-whole_law o e bytes sup can (inl i) = subst (λ (x : Changes). EditedBy o x (edited_file o x)) (sym i) (subst (EditedBy o none_done) (sym (new_nothing o bytes sup)) (edited_nothing o sup))
-whole_law o e bytes sup can (inr none) = edited_law o e bytes sup can (fits_of (movie_of o) e none)
+whole_law o e bytes sup can (inl i) = subst (λ (x : Changes). EditedBy o x (edited_file o x)) (sym i) (subst (EditedBy o none_done) (sym (new_nothing o bytes sup.readable)) (edited_nothing o sup))
+whole_law o e bytes sup can (inr none) = edited_law o e bytes sup.readable can (fits_of (movie_of o) e none)
 
 -- The new file has a length that can be told.
 pub length_law : (o : List ℕ) (e : Changes) → first_above (all_sizes (movie_of o) e) ≡ None → length (edited_file o e) ≤ 2 ^ 63 - 1

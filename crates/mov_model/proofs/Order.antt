@@ -26,7 +26,7 @@ use Rattle.mov_model.proofs.Cells.{is_user}
 use Rattle.std.proofs.Common.{None, Option, Some, zero}
 use Rattle.mov_model.specs.Movie.{Movie, movie_of}
 use Rattle.mov_model.specs.New.{fill, gaps_of, grown, pieces_of, is_open, whole_pieces, ends_file, kids_at, new_movie}
-use Rattle.mov_model.specs.Support.{Supported}
+use Rattle.mov_model.specs.Support.{Readable}
 use Rattle.mov_model.specs.Edited.{changes, new_file}
 use Rattle.part_tree.specs.Order.{SoundPatches}
 use Rattle.carrier_model.specs.Room.{patch, unit_patch, unit_patches}
@@ -198,7 +198,7 @@ one_size to_end at n = omega arith
 
 -- ---- of a supported file
 
-module _ (o : List ℕ) (e : List EditItem) (bytes : IsBytes o) (sup : Supported o) where
+module _ (o : List ℕ) (e : List EditItem) (bytes : IsBytes o) (sup : Readable o) where
   abbrev m : Movie
   m = movie_of o
 

@@ -38,7 +38,7 @@ UserWhole c = ((udta.opening c).stop ≡ ends) × IsBytes c.body
 -- ---- the items of the first user data
 
 -- the items of the first of a list
-abbrev items_among : List Chunk → List Chunk
+abbrev pub items_among : List Chunk → List Chunk
 items_among [] = []
 items_among (c ∷ cs) = (udta.opening c).chunks
 

@@ -30,7 +30,7 @@ use Rattle.mov_model.specs.Carried.{Changes, steps}
 use Rattle.mov_model.specs.Movie.{Movie, all_atoms, movie_of, spell_movie}
 use Rattle.mov_model.specs.New.{edit_cuts, ends_file, ends_open, fill, gaps_of, grown, hanging, is_open, kids_at, edited_file, new_kids, new_movie, overlaid, padding_behind, pieces_of, rest_behind, whole_pieces, with_size}
 use Rattle.mov_model.specs.Pieces.{held}
-use Rattle.mov_model.specs.Support.{Supported}
+use Rattle.mov_model.specs.Support.{Readable}
 use Rattle.mov_model.specs.Tables.{relocated}
 
 module _ (m : Movie) (e : Changes) (joined : spell_all (atoms_in m.movie).chunks ++ (atoms_in m.movie).left ≡ m.movie.body) (no_pad : m.movie.pad ≡ [])
@@ -160,18 +160,18 @@ pub kids_all : (f : ℕ → ℕ) (cs : List Chunk) → AllByRecursion (Atom insi
 kids_all f [] a w b = tt
 kids_all f (c ∷ cs) a w b = ((le-ltb _ _ (omega (arith, a.0.pad_none)), relocated_alike f c w.0 b.0), kids_all f cs a.1 w.1 b.1)
 
-pub overlay_law : (o : List ℕ) (e : Changes) → IsBytes o → Supported o
+pub overlay_law : (o : List ℕ) (e : Changes) → IsBytes o → Readable o
     → edited_file o e ≡ with_size (movie_of o) (length (new_movie (movie_of o) e).movie.body) (splice (spell_movie (overlaid (movie_of o) e)) (edit_cuts (movie_of o) e))
 unfolding edited_file
 overlay_law o e bytes sup =
     new_is_overlaid (movie_of o) e (kids_joined o bytes sup) (moov_padless o bytes sup)
     (kids_all (shift (edit_cuts (movie_of o) e)) (kids o bytes sup) (kids_read o bytes sup).0 (whole_kids (kids o bytes sup) sup.movie.tracks_end) (kids_bytes o bytes sup))
 
-pub splice_law : (o : List ℕ) (e : Changes) → IsBytes o → Supported o
+pub splice_law : (o : List ℕ) (e : Changes) → IsBytes o → Readable o
     → spell_movie (Rattle.mov_model.specs.New.laid_movie (movie_of o) e) ≡ with_size (movie_of o) (length (Rattle.mov_model.specs.New.laid_movie (movie_of o) e).movie.body) (splice o (edit_cuts (movie_of o) e))
 splice_law o e bytes sup =
     Rattle.mov_model.proofs.Spans.laid_is_spliced (movie_of o) e (kids_joined o bytes sup) (moov_padless o bytes sup)
     ∙ ap (λ (b : List ℕ). with_size (movie_of o) (length (Rattle.mov_model.specs.New.laid_movie (movie_of o) e).movie.body) (splice b (edit_cuts (movie_of o) e))) (file_bytes o bytes sup)
 
-pub held_law : (o : List ℕ) (p : ℕ) (x : ℕ × List ℕ) → IsBytes o → Supported o → held 0 p (all_atoms (movie_of o)) ≡ Some x → take (length x.1) (drop p o) ≡ x.1
+pub held_law : (o : List ℕ) (p : ℕ) (x : ℕ × List ℕ) → IsBytes o → Readable o → held 0 p (all_atoms (movie_of o)) ≡ Some x → take (length x.1) (drop p o) ≡ x.1
 held_law o p x bytes sup h = ap (λ (b : List ℕ). take (length x.1) (drop p b)) (sym (file_bytes o bytes sup)) ∙ held_bytes 0 p (all_atoms (movie_of o)) (movie_of o).left x h

@@ -9,7 +9,11 @@ use Rattle.container_model.specs.Chunk.{read, chunks}
 use Rattle.container_model.specs.Units.{units}
 use Rattle.container_model.specs.Deep.{mend, leaves}
 use Rattle.container_model.specs.Walk.{walk}
+use Rattle.container_model.specs.Deep.{tokens}
+use Rattle.mov_model.specs.After.{widens}
+use Rattle.mov_model.specs.Kept.{kept}
 use Rattle.mov_model.specs.New.{edited_file}
+use Rattle.mov_model.specs.Widen.{wide_in, wide_kept, widened_file}
 use Rattle.qt_keys.specs.Read.{key_table}
 use Rattle.qt_keys.specs.Short.{each}
 use Rattle.mov_model.specs.Edited.{fields, new_file}
@@ -215,3 +219,32 @@ keyed_in_place = refl
 key_has_room : has_room reel_keyed (set_key (codes "Ho")) ≡ true
 unfolding edited_file units chunks read mend leaves walk key_table each
 key_has_room = refl
+
+-- ---- wide tables
+
+-- the movie with wide tables: moov is eight bytes longer, and both places move by that
+abbrev reel_wide : List ℕ
+reel_wide = 0 ∷ 0 ∷ 0 ∷ 20 ∷ 102 ∷ 116 ∷ 121 ∷ 112 ∷ 113 ∷ 116 ∷ 32 ∷ 32 ∷ 0 ∷ 0 ∷ 0 ∷ 0 ∷ 113 ∷ 116 ∷ 32 ∷ 32 ∷ 0 ∷ 0 ∷ 0 ∷ 144 ∷ 109 ∷ 111 ∷ 111 ∷ 118 ∷ 0 ∷ 0 ∷ 0 ∷ 112 ∷ 116 ∷ 114 ∷ 97 ∷ 107 ∷ 0 ∷ 0 ∷ 0 ∷ 104 ∷ 109 ∷ 100 ∷ 105 ∷ 97 ∷ 0 ∷ 0 ∷ 0 ∷ 96 ∷ 109 ∷ 105 ∷ 110 ∷ 102 ∷ 0 ∷ 0 ∷ 0 ∷ 88 ∷ 115 ∷ 116 ∷ 98 ∷ 108 ∷ 0 ∷ 0 ∷ 0 ∷ 28 ∷ 115 ∷ 116 ∷ 115 ∷ 99 ∷ 0 ∷ 0 ∷ 0 ∷ 0 ∷ 0 ∷ 0 ∷ 0 ∷ 1 ∷ 0 ∷ 0 ∷ 0 ∷ 1 ∷ 0 ∷ 0 ∷ 0 ∷ 1 ∷ 0 ∷ 0 ∷ 0 ∷ 1 ∷ 0 ∷ 0 ∷ 0 ∷ 20 ∷ 115 ∷ 116 ∷ 115 ∷ 122 ∷ 0 ∷ 0 ∷ 0 ∷ 0 ∷ 0 ∷ 0 ∷ 0 ∷ 8 ∷ 0 ∷ 0 ∷ 0 ∷ 2 ∷ 0 ∷ 0 ∷ 0 ∷ 32 ∷ 99 ∷ 111 ∷ 54 ∷ 52 ∷ 0 ∷ 0 ∷ 0 ∷ 0 ∷ 0 ∷ 0 ∷ 0 ∷ 2 ∷ 0 ∷ 0 ∷ 0 ∷ 0 ∷ 0 ∷ 0 ∷ 0 ∷ 196 ∷ 0 ∷ 0 ∷ 0 ∷ 0 ∷ 0 ∷ 0 ∷ 0 ∷ 204 ∷ 0 ∷ 0 ∷ 0 ∷ 24 ∷ 117 ∷ 100 ∷ 116 ∷ 97 ∷ 0 ∷ 0 ∷ 0 ∷ 16 ∷ 169 ∷ 110 ∷ 97 ∷ 109 ∷ 0 ∷ 4 ∷ 21 ∷ 199 ∷ 82 ∷ 101 ∷ 101 ∷ 108 ∷ 0 ∷ 0 ∷ 0 ∷ 24 ∷ 102 ∷ 114 ∷ 101 ∷ 101 ∷ 0 ∷ 0 ∷ 0 ∷ 0 ∷ 0 ∷ 0 ∷ 0 ∷ 0 ∷ 0 ∷ 0 ∷ 0 ∷ 0 ∷ 0 ∷ 0 ∷ 0 ∷ 0 ∷ 0 ∷ 0 ∷ 0 ∷ 24 ∷ 109 ∷ 100 ∷ 97 ∷ 116 ∷ 0 ∷ 0 ∷ 0 ∷ 0 ∷ 0 ∷ 0 ∷ 0 ∷ 0 ∷ 0 ∷ 0 ∷ 0 ∷ 0 ∷ 0 ∷ 0 ∷ 0 ∷ 1 ∷ []
+
+made_wide : widened_file reel ≡ reel_wide
+unfolding widened_file chunks read mend wide_in
+made_wide = refl
+
+-- it is supported, and its tables find the same
+fine_wide : why reel_wide ≡ None
+unfolding read chunks walk leaves
+fine_wide = refl
+
+same_found : pieces reel_wide ≡ pieces reel
+unfolding read chunks walk leaves
+same_found = refl
+
+-- what is kept has a wide table too
+same_kept : kept reel_wide ≡ wide_kept (kept reel)
+unfolding read chunks walk leaves tokens key_table each
+same_kept = refl
+
+-- the edits of small movies don't widen
+stays_narrow : widens reel (set big) ≡ false
+unfolding edited_file units chunks read mend leaves walk
+stays_narrow = refl

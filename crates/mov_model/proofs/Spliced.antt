@@ -20,7 +20,7 @@ use Rattle.carrier_model.specs.Steps.{carried}
 use Rattle.mov_model.specs.Carried.{Changes, fresh, steps}
 use Rattle.mov_model.specs.Movie.{Movie, spell_movie, movie_of}
 use Rattle.mov_model.specs.New.{fill, gaps_of, grown, pieces_of, is_open, whole_pieces, ends_file, kids_at, edit_cuts, laid_movie, new_movie, edited_file}
-use Rattle.mov_model.specs.Support.{Supported}
+use Rattle.mov_model.specs.Support.{Readable}
 use Rattle.mov_model.specs.Edited.{changes, new_file}
 use Rattle.mov_model.specs.Cuts.{kid_cuts, header_cut, all_cuts}
 use Rattle.mov_model.proofs.Again.{kids, kids_joined, kids_bytes, kids_read, whole_kids, moov_padless, file_bytes}
@@ -150,14 +150,14 @@ module _ (m : Movie) (e : Changes) (joined : spell_all (atoms_in m.movie).chunks
       = omega (arith, ap length (movie_bytes m e joined no_pad), length-append b hd, length-append (b ++ hd) (flat_map old_bytes ps ++ behind), length-append (flat_map old_bytes ps) behind) in
       (omega arith, cuts_ascend_with (kid_cuts f) (relocated f) (fill (ends_file m e)) (kids_at m e) ps (length (spell_movie m)) whole_makes room)
 
-pub ascend_law : (o : List ℕ) (e : List EditItem) → IsBytes o → Supported o → Ascend 0 (all_cuts (movie_of o) (changes o e)) (length o)
+pub ascend_law : (o : List ℕ) (e : List EditItem) → IsBytes o → Readable o → Ascend 0 (all_cuts (movie_of o) (changes o e)) (length o)
 ascend_law o e bytes sup =
     subst (λ (b : List ℕ). Ascend 0 (all_cuts (movie_of o) (changes o e)) (length b)) (file_bytes o bytes sup)
     (cuts_ascend (movie_of o) (changes o e) (kids_joined o bytes sup) (moov_padless o bytes sup)
     (kids_all (shift (edit_cuts (movie_of o) (changes o e))) (kids o bytes sup) (kids_read o bytes sup).0 (whole_kids (kids o bytes sup) sup.movie.tracks_end) (kids_bytes o bytes sup))
     (kids_ok (kids o bytes sup) (kids_supported o sup)) (kids_bytes o bytes sup))
 
-pub new_law : (o : List ℕ) (e : List EditItem) → IsBytes o → Supported o → new_file o e ≡ splice o (all_cuts (movie_of o) (changes o e))
+pub new_law : (o : List ℕ) (e : List EditItem) → IsBytes o → Readable o → new_file o e ≡ splice o (all_cuts (movie_of o) (changes o e))
 unfolding edited_file
 new_law o e bytes sup =
     movie_is_spliced (movie_of o) (changes o e) (kids_joined o bytes sup) (moov_padless o bytes sup)

@@ -30,7 +30,7 @@ use Rattle.mov_model.specs.Carried.{Changes, fresh, steps}
 use Rattle.mov_model.specs.Movie.{Movie, movie_of}
 use Rattle.mov_model.specs.New.{fill, pieces_of, is_open, laid_movie, laid_kids, new_kids, new_movie, edit_cuts, edited_file}
 use Rattle.mov_model.specs.Parts.{track_of, tracks}
-use Rattle.mov_model.specs.Support.{Supported}
+use Rattle.mov_model.specs.Support.{Readable}
 use Rattle.mov_model.specs.Edited.{changes, new_file}
 use Rattle.mov_model.specs.Cuts.{TablesStay, unit_cuts}
 use Rattle.mov_model.proofs.Again.{fill_all, kids, kids_joined, kids_bytes, kids_read, whole_kids, moov_padless, file_bytes}
@@ -169,14 +169,14 @@ module _ (f : ℕ → ℕ) where
       (lay_all Stays (fill (is_open m e)) (record { on_pads = padded_stays; on_fill = λ last slot s. fill_all Stays (λ body lt. free_stays body) (is_open m e) last slot s }) shut (carried (steps e) (map cell_of cs)) tt cells)
 
 -- the new movie is the one that was laid
-pub laid_same : (o : List ℕ) (e : Changes) (bytes : IsBytes o) (sup : Supported o) → AllByRecursion (λ t. Fixed (shift (edit_cuts (movie_of o) e)) (places (tables t))) (tracks (movie_of o)) → new_movie (movie_of o) e ≡ laid_movie (movie_of o) e
+pub laid_same : (o : List ℕ) (e : Changes) (bytes : IsBytes o) (sup : Readable o) → AllByRecursion (λ t. Fixed (shift (edit_cuts (movie_of o) e)) (places (tables t))) (tracks (movie_of o)) → new_movie (movie_of o) e ≡ laid_movie (movie_of o) e
 laid_same o e bytes sup h =
     let m = movie_of o in
     let f = shift (edit_cuts m e) in
     let stay = all_stay f (kids o bytes sup) h (whole_kids (kids o bytes sup) sup.movie.tracks_end) (kids_bytes o bytes sup) (kids_read o bytes sup).0 in
     ap (λ (ks : List Chunk). Rattle.mov_model.specs.New.with_kids m e ks) (kids_stay f m e stay)
 
-pub stay_law : (o : List ℕ) (e : List EditItem) → IsBytes o → Supported o → TablesStay o e → new_file o e ≡ splice o (unit_cuts (movie_of o) (changes o e))
+pub stay_law : (o : List ℕ) (e : List EditItem) → IsBytes o → Readable o → TablesStay o e → new_file o e ≡ splice o (unit_cuts (movie_of o) (changes o e))
 unfolding edited_file
 stay_law o e bytes sup h =
     let m = movie_of o in

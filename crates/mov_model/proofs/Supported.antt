@@ -31,8 +31,8 @@ use Rattle.qt_keys.specs.Table.{table_bytes}
 use Rattle.part_tree.specs.declared.field.Value.{Value}
 use Rattle.mov_model.specs.Movie.{Movie, all_atoms, spell_movie}
 use Rattle.mov_model.specs.Parts.{first_of, has_id, parts, tracks}
-use Rattle.mov_model.specs.Reading.{no_twice}
-use Rattle.mov_model.specs.Support.{IsHeld, MovieFine, Supported, TrackFine, is_refused}
+use Rattle.mov_model.specs.Reading.{count_parts, no_twice}
+use Rattle.mov_model.specs.Support.{IsHeld, MovieFine, Readable, Supported, TrackFine, is_refused}
 use Rattle.mov_model.specs.Tables.{relocated, tables}
 use Rattle.sample_tables.specs.Tables.{FitsRows, places}
 use Rattle.qt_text.specs.User.{udta, user_items}
@@ -65,7 +65,7 @@ user_after : (Q : Chunk → Type 0) (e : List (Item Value)) (cs : List Chunk) �
 user_after Q [] cs same h n = same
 user_after Q (i ∷ e) cs same h n = user_by Q (i ∷ e) cs h n
 
-no_moov-append : (id : List ℕ) (a : List Chunk) (c : Chunk) (b : List Chunk) → is c id ≡ true → has_id id (a ++ c ∷ b) ≡ true
+pub no_moov-append : (id : List ℕ) (a : List Chunk) (c : Chunk) (b : List Chunk) → is c id ≡ true → has_id id (a ++ c ∷ b) ≡ true
 no_moov-append id [] c b e = rw e refl
 no_moov-append id (d ∷ a) c b e = go (is d id) (no_moov-append id a c b e)
   where
@@ -73,14 +73,14 @@ no_moov-append id (d ∷ a) c b e = go (is d id) (no_moov-append id a c b e)
     go true h = refl
     go false h = h
 
-plain_whole : (c : Chunk) → is c (codes "trak") ≡ false → Whole format 5 moov c
+pub plain_whole : (c : Chunk) → is c (codes "trak") ≡ false → Whole format 5 moov c
 unfolding Whole
 plain_whole c u = rw u tt
 
 user_accepted : (c : Chunk) → is_user c ≡ true → is_refused c ≡ false
 user_accepted c u = rw (same_true c.id (codes "udta") u) refl
 
-module _ (o : List ℕ) (bytes : IsBytes o) (sup : Supported o) (e : Changes) (can : CanSet e) (fits : Fits (mov o bytes sup) e) where
+module _ (o : List ℕ) (bytes : IsBytes o) (sup : Readable o) (e : Changes) (can : CanSet e) (fits : Fits (mov o bytes sup) e) where
   abbrev old : Movie
   old = mov o bytes sup
 
@@ -161,13 +161,11 @@ module _ (o : List ℕ) (bytes : IsBytes o) (sup : Supported o) (e : Changes) (c
     no_fragments = ap (λ (cs : List Chunk). has_id (codes "moof") (solids is_padding old.before ++ cs)) (behind_solids old e) ∙ sup.movie.no_fragments;
     atoms_end = ap (λ (r : Run). r.stop) (moov_again o bytes sup e fits);
     tracks_end = in_parts (Whole format 5 moov) (λ c u. plain_whole c (user_sort.no_track c u)) (λ c i. plain_whole c (rw i refl)) (all_map KidWhole (Whole format 5 moov) (relocated f) (λ c w. relocated_whole f c w.0 w.1) (parts old) pw);
-    small = fits.movie_small;
     user_ends = in_user (λ c. (udta.opening c).stop ≡ ends) sup.movie.user_ends (edited_ends (first_of is_user (parts old)) old_user) (λ t. fresh_ends (put_all user_items e.users []) (ap (λ (r : Run). r.stop) (fresh_again e.users can.users)));
     user_small = in_user (λ c. length c.body ≤ 2 ^ 24) sup.movie.user_small fits.user_small fits.fresh_small;
     not_refused = in_parts (λ c. is_refused c ≡ false) user_accepted (λ c i. rw i refl)
         (all_map (λ c. is_refused c ≡ false) (λ c. is_refused c ≡ false) (relocated f) (λ c h. ap (λ (x : List ℕ). is_refused (record c { id = x })) (relocated_id f c) ∙ h) (parts old) sup.movie.not_refused);
     tracks = subst (AllByRecursion (TrackFine (all_atoms new))) (sym (new_tracks o bytes sup e can fits)) (tracks_fine (tracks old) (all_tracks KidWhole (parts old) pw) sup.movie.tracks fits.rows);
-    few_parts = fits.few_parts;
   }
 
   moov_form : AtomForm new.movie.form
@@ -176,7 +174,7 @@ module _ (o : List ℕ) (bytes : IsBytes o) (sup : Supported o) (e : Changes) (c
       let t = told_of top top (spell old.movie ++ (spell_all old.behind ++ old.left)) old.movie.id (old.movie.body ++ (old.movie.pad ++ (spell_all old.behind ++ old.left))) old.movie.form (length old.movie.body) s.header_read in
       t.4
 
-  moov_len : length new.movie.body + 8 ≤ 2 ^ 26
+  moov_len : length new.movie.body + 8 ≤ 2 ^ 28
   moov_len = omega (arith, fits.movie_small, length-append (header_bytes new.movie.form new.movie.id (length new.movie.body)) (new.movie.body ++ new.movie.pad), length-append new.movie.body new.movie.pad, head new.movie.form moov_form)
     where
       head : (form : Form) → AtomForm form → 8 ≤ length (header_bytes form new.movie.id (length new.movie.body))
@@ -194,9 +192,15 @@ module _ (o : List ℕ) (bytes : IsBytes o) (sup : Supported o) (e : Changes) (c
           ∙ same_first c (spell_all (a ++ old.movie ∷ old.behind) ++ old.left) (spell_all (a ++ new.movie ∷ new.behind) ++ new.left) r.0 (ap begins_movie (sym (append_assoc (spell c) (spell_all (a ++ old.movie ∷ old.behind)) old.left)) ∙ k)
 
   pub new_supported : Supported (spell_movie new)
-  new_supported = record {
-    kind = new_kind;
-    atoms_end = ap (λ (r : Run). r.stop) (file_again o bytes sup e fits);
-    has_moov = ap (λ (r : Run). has_id (codes "moov") r.chunks) (file_again o bytes sup e fits) ∙ no_moov-append (codes "moov") old.before new.movie new.behind (rw sup.movie.is_moov refl);
-    movie = subst MovieFine (sym (movie_again o bytes sup e fits)) new_fine;
-  }
+  new_supported =
+      let again = movie_again o bytes sup e fits in
+      record {
+        readable = record {
+          kind = new_kind;
+          atoms_end = ap (λ (r : Run). r.stop) (file_again o bytes sup e fits);
+          has_moov = ap (λ (r : Run). has_id (codes "moov") r.chunks) (file_again o bytes sup e fits) ∙ no_moov-append (codes "moov") old.before new.movie new.behind (rw sup.movie.is_moov refl);
+          movie = subst MovieFine (sym again) new_fine;
+        };
+        small = subst (λ (m : Movie). length (spell m.movie) ≤ 2 ^ 26) (sym again) fits.movie_small;
+        few_parts = subst (λ (m : Movie). count_parts m ≤ 65536) (sym again) fits.few_parts;
+      }

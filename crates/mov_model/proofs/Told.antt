@@ -23,7 +23,7 @@ use Rattle.mov_model.proofs.Steps.{InTrack, inner, inner_track, met_both, met_ro
 use Rattle.std.proofs.lemmas.List.Concat.{flat_map-append}
 use Rattle.mov_model.specs.Movie.{all_atoms, movie_of, top_run}
 use Rattle.mov_model.specs.Reading.{atoms_met, count_parts, inside_at, inside_steps, kid_steps, moov_steps, reading, row}
-use Rattle.mov_model.specs.Support.{Supported}
+use Rattle.mov_model.specs.Support.{Readable}
 use Rattle.mov_model.proofs.Again.{whole}
 
 -- ---- bytes that lie at a place
@@ -94,7 +94,7 @@ met_inside b seen at (c ∷ cs) bytes l =
     (met_kid b (not seen && udta.is c) at c bytes.0 (lie_first b at (spell c) (spell_all cs) l))
     (met_inside b (seen || udta.is c) (at + length (spell c)) cs bytes.1 (lie_then b at (spell c) (spell_all cs) l))
 
-module _ (b : List ℕ) (bytes : IsBytes b) (sup : Supported b) where
+module _ (b : List ℕ) (bytes : IsBytes b) (sup : Readable b) where
   top_lies : Lies b 0 (spell_all (top_run b).chunks)
   top_lies = ((top_run b).left, sym (chunks_joined atom_front atoms_give_back top b bytes))
 
@@ -142,10 +142,10 @@ as_many before [] = refl
 as_many before (chunk_at p at c ∷ ss) = ap suc (as_many (chunk_at p at c ∷ before) ss)
 as_many before (end_at p at stop ∷ ss) = as_many (end_at p at stop ∷ before) ss
 
-pub parts_law : (b : List ℕ) → IsBytes b → Supported b → map (λ (p : Part). bytes_in b p.body) (parts_of b) ≡ met_bodies b
+pub parts_law : (b : List ℕ) → IsBytes b → Readable b → map (λ (p : Part). bytes_in b p.body) (parts_of b) ≡ met_bodies b
 parts_law b bytes sup = parts_told b [] (reading b) (all_met b bytes sup)
 
-pub count_law : (b : List ℕ) → IsBytes b → Supported b → length (parts_of b) ≡ count_parts (movie_of b)
+pub count_law : (b : List ℕ) → IsBytes b → Readable b → length (parts_of b) ≡ count_parts (movie_of b)
 count_law b bytes sup =
     let m = movie_of b in
     as_many [] (reading b) ∙ met_both (row file 0 (top_run b).chunks) (end_at file (length (spell_all (top_run b).chunks)) (top_run b).stop ∷ moov_steps m)
@@ -203,7 +203,7 @@ inside_essence seen at (c ∷ cs) =
     ∙ ap (λ (xs : List (List ℕ)). xs ++ flat_map essence_met (inside_steps (seen || udta.is c) (at + length (spell c)) cs)) (kid_essence (not seen && udta.is c) at c)
     ∙ inside_essence (seen || udta.is c) (at + length (spell c)) cs
 
-pub essence_law : (b : List ℕ) → IsBytes b → Supported b → map (bytes_in b) (essence b) ≡ mdat_bodies (all_atoms (movie_of b))
+pub essence_law : (b : List ℕ) → IsBytes b → Readable b → map (bytes_in b) (essence b) ≡ mdat_bodies (all_atoms (movie_of b))
 essence_law b bytes sup =
     let m = movie_of b in
     let k = (atoms_in m.movie).chunks in

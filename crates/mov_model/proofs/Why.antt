@@ -16,7 +16,7 @@ use Rattle.mov_model.specs.Movie.{Movie, split_by, split, all_atoms, top_run, mo
 use Rattle.mov_model.specs.Parts.{parts, has_id, tracks, first_user}
 use Rattle.mov_model.specs.Pieces.{held}
 use Rattle.mov_model.specs.Reading.{row, inside_steps, inside_at, moov_steps, reading, atoms_met}
-use Rattle.mov_model.specs.Support.{IsHeld, TrackFine, Supported}
+use Rattle.mov_model.specs.Support.{IsHeld, Readable, Supported, TrackFine}
 use Rattle.mov_model.specs.Why.{Test, file_id, moov_id, met_moov, met_user, tests_from, is_none, place_tests, chunk_tests, tests, why}
 use Rattle.mov_model.proofs.Again.{split_whole}
 use Rattle.mov_model.proofs.Steps.{not_false, false_not, bad_none, back, good_parts, parts_good, met_both, met_back, met_row, listed_back, FileFine, file_good, good_file}
@@ -218,22 +218,24 @@ module _ (b : List ℕ) where
       let none_of : has_id (codes "moof") (solids is_padding m.before ++ solids is_padding m.behind) ≡ false
       = has_both (codes "moof") (solids is_padding m.before) (solids is_padding m.behind) ∙ rw (solid_id (codes "moof") refl m.before, solid_id (codes "moof") refl m.behind, top.before) top.behind in
       record {
-        kind = not_false _ h.0;
-        atoms_end = stop_ends (top_run b).stop q.1.1.0;
-        has_moov = has;
-        movie = record {
-          is_moov = top.is_moov;
-          no_other = solid_id (codes "moov") refl m.behind ∙ top.one;
-          no_fragments = none_of;
-          atoms_end = stop_ends (atoms_in m.movie).stop k.1.1.0;
-          tracks_end = are.whole;
-          small = top.small;
-          user_ends = u.0;
-          user_small = u.1;
-          not_refused = are.not_refused;
-          tracks = tracks_from (all_atoms m) (tracks m) are.tracks (chunks_held (all_atoms m) 1 (tracks m) p.1);
-          few_parts = omega (arith, g.0, count_met, count_kids, ap (length {A = Chunk}) whole.0);
+        readable = record {
+          kind = not_false _ h.0;
+          atoms_end = stop_ends (top_run b).stop q.1.1.0;
+          has_moov = has;
+          movie = record {
+            is_moov = top.is_moov;
+            no_other = solid_id (codes "moov") refl m.behind ∙ top.one;
+            no_fragments = none_of;
+            atoms_end = stop_ends (atoms_in m.movie).stop k.1.1.0;
+            tracks_end = are.whole;
+            user_ends = u.0;
+            user_small = u.1;
+            not_refused = are.not_refused;
+            tracks = tracks_from (all_atoms m) (tracks m) are.tracks (chunks_held (all_atoms m) 1 (tracks m) p.1);
+          };
         };
+        small = top.small;
+        few_parts = omega (arith, g.0, count_met, count_kids, ap (length {A = Chunk}) whole.0);
       }
 
   or_parts : (a b : Bool) → (a || b) ≡ false → (a ≡ false) × (b ≡ false)
@@ -241,24 +243,24 @@ module _ (b : List ℕ) where
   or_parts false b e = (refl, e)
 
   -- what is asked of the atoms of moov
-  pub kids_supported : Supported b → KidsAre (parts m)
+  pub kids_supported : Readable b → KidsAre (parts m)
   kids_supported s =
       let t = tracks_to (all_atoms m) (tracks m) s.movie.tracks in
       record { not_refused = s.movie.not_refused; whole = s.movie.tracks_end; tracks = t.0; user = user_to (first_user (parts m)) s.movie.user_ends s.movie.user_small }
 
   pub supported_none : Supported b → why b ≡ None
   supported_none s =
-      let whole = split_whole cs (top_run b).left s.has_moov in
+      let whole = split_whole cs (top_run b).left s.readable.has_moov in
       let fragments = or_parts (has_id (codes "moof") m.before) (has_id (codes "moof") m.behind)
-      (sym (has_both (codes "moof") (solids is_padding m.before) (solids is_padding m.behind) ∙ rw (solid_id (codes "moof") refl m.before, solid_id (codes "moof") refl m.behind) refl) ∙ s.movie.no_fragments) in
-      let top : TopFine m = record { is_moov = s.movie.is_moov; small = s.movie.small; one = sym (solid_id (codes "moov") refl m.behind) ∙ s.movie.no_other; before = fragments.0; behind = fragments.1 } in
-      let few : length cs + atoms_met kid_steps_now ≤ 65536 = omega (arith, s.movie.few_parts, count_kids, ap (length {A = Chunk}) whole.0) in
-      let file_tests = good_file cs 0 [] (omega (arith, few)) (fine_split cs (top_run b).left s.has_moov top) in
-      let t = tracks_to (all_atoms m) (tracks m) s.movie.tracks in
-      let are = kids_supported s in
+      (sym (has_both (codes "moof") (solids is_padding m.before) (solids is_padding m.behind) ∙ rw (solid_id (codes "moof") refl m.before, solid_id (codes "moof") refl m.behind) refl) ∙ s.readable.movie.no_fragments) in
+      let top : TopFine m = record { is_moov = s.readable.movie.is_moov; small = s.small; one = sym (solid_id (codes "moov") refl m.behind) ∙ s.readable.movie.no_other; before = fragments.0; behind = fragments.1 } in
+      let few : length cs + atoms_met kid_steps_now ≤ 65536 = omega (arith, s.few_parts, count_kids, ap (length {A = Chunk}) whole.0) in
+      let file_tests = good_file cs 0 [] (omega (arith, few)) (fine_split cs (top_run b).left s.readable.has_moov top) in
+      let t = tracks_to (all_atoms m) (tracks m) s.readable.movie.tracks in
+      let are = kids_supported s.readable in
       let kid_tests = good_kids kids false (inside_at m) met no_user (omega (arith, few, count_met)) (are_kids kids are) in
-      let e = bad_none (top_run b).stop s.atoms_end in
-      let i = bad_none (atoms_in m.movie).stop s.movie.atoms_end in
+      let e = bad_none (top_run b).stop s.readable.atoms_end in
+      let i = bad_none (atoms_in m.movie).stop s.readable.movie.atoms_end in
       let moov_tests = parts_good met kid_steps_now moov_end kid_tests (i.0, (i.1, tt)) in
-      let steps = parts_good [] first_steps (file_end ∷ moov_steps m) file_tests (e.0, (e.1, (false_not (met_moov (back first_steps [])) (moov_met ∙ s.has_moov), moov_tests))) in
-      none_first (tests b) (false_not (begins_movie b) s.kind, all_join Fails (tests_from [] (reading b)) (chunk_tests (all_atoms m) 1 (tracks m)) steps (held_chunks (all_atoms m) 1 (tracks m) t.1))
+      let steps = parts_good [] first_steps (file_end ∷ moov_steps m) file_tests (e.0, (e.1, (false_not (met_moov (back first_steps [])) (moov_met ∙ s.readable.has_moov), moov_tests))) in
+      none_first (tests b) (false_not (begins_movie b) s.readable.kind, all_join Fails (tests_from [] (reading b)) (chunk_tests (all_atoms m) 1 (tracks m)) steps (held_chunks (all_atoms m) 1 (tracks m) t.1))

@@ -2,6 +2,7 @@
 use Rattle.std.specs.Prelude.{List, None}
 use Rattle.part_tree.specs.declared.names.Kind.TheVariants.{Mov}
 use Rattle.field_model.specs.Kind.{KindModel}
+use Rattle.mov_model.specs.After.{file_after, large_after, placed_after, room_after}
 use Rattle.mov_model.specs.Edited.{changes, fields, new_file}
 use Rattle.mov_model.specs.Kept.{Kept, kept, placed}
 use Rattle.mov_model.specs.Large.{too_large}
@@ -34,3 +35,7 @@ narrow_kind = record {
   pieces = pieces;
   Also = λ o e n. Unit {0};
 }
+
+-- The kind: a movie of which a place passes 32 bits gets wide tables.
+abbrev pub mov_kind : KindModel
+mov_kind = record narrow_kind { new_file = file_after; too_large = large_after; has_room = room_after; placed = placed_after }

@@ -32,23 +32,27 @@ pub record TrackFine (atoms : List Chunk) (t : Chunk) : Type 0 where
 abbrev pub is_refused : Chunk → Bool
 is_refused c = is c (codes "cmov") || (is c (codes "rmra") || is c (codes "mvex"))
 
--- A movie: one moov of at most 64 MiB, no fragments, all that is opened ends as it should, and at most 65,536 atoms.
+-- A movie: one moov, no fragments, and all that is opened ends as it should.
 pub record MovieFine (m : Movie) : Type 0 where
   pub is_moov : m.movie.id ≡ codes "moov"
   pub no_other : has_id (codes "moov") (solids is_padding m.behind) ≡ false
   pub no_fragments : has_id (codes "moof") (solids is_padding m.before ++ solids is_padding m.behind) ≡ false
   pub atoms_end : (atoms_in m.movie).stop ≡ ends
   pub tracks_end : AllByRecursion (Whole format 5 moov) (parts m)
-  pub small : length (spell m.movie) ≤ 2 ^ 26
   pub user_ends : AllByRecursion (λ c. (udta.opening c).stop ≡ ends) (first_user (parts m))
   pub user_small : AllByRecursion (λ c. length c.body ≤ 2 ^ 24) (first_user (parts m))
   pub not_refused : AllByRecursion (λ c. is_refused c ≡ false) (parts m)
   pub tracks : AllByRecursion (TrackFine (all_atoms m)) (tracks m)
-  pub few_parts : count_parts m ≤ 65536
 
--- A file that is supported: a movie by its first bytes, whose atoms end as they should, with a moov that is fine.
-pub record Supported (b : List ℕ) : Type 0 where
+-- A file that is read as a movie, of any size: one by its first bytes, whose atoms end as they should, with a moov that is fine.
+pub record Readable (b : List ℕ) : Type 0 where
   pub kind : begins_movie b ≡ true
   pub atoms_end : (top_run b).stop ≡ ends
   pub has_moov : has_id (codes "moov") (top_run b).chunks ≡ true
   pub movie : MovieFine (movie_of b)
+
+-- It is supported where its moov has at most 64 MiB, and there are at most 65,536 atoms.
+pub record Supported (b : List ℕ) : Type 0 where
+  pub readable : Readable b
+  pub small : length (spell (movie_of b).movie) ≤ 2 ^ 26
+  pub few_parts : count_parts (movie_of b) ≤ 65536

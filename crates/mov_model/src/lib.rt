@@ -16,7 +16,7 @@ ghost use Rattle.mov_model.specs.New.{edited_file, new_movie, laid_movie, overla
 ghost use Rattle.field_model.specs.Kind.{IsKind};
 ghost use Rattle.mov_model.specs.Carried.{Changes};
 ghost use Rattle.mov_model.specs.Edited.{changes, new_file};
-ghost use Rattle.mov_model.specs.Kind.{narrow_kind};
+ghost use Rattle.mov_model.specs.Kind.{mov_kind, narrow_kind};
 ghost use Rattle.mov_model.specs.Support.{IsHeld, Supported};
 ghost use Rattle.mov_model.specs.Pieces.{held};
 ghost use Rattle.mov_model.specs.Why.{why};
@@ -26,6 +26,13 @@ ghost use Rattle.mov_model.specs.Room.{Room, patches};
 ghost use Rattle.part_tree.specs.Order.{SoundPatches};
 ghost use Rattle.part_tree.specs.Patches.{laid};
 ghost use Rattle.std.specs.List.{AllByRecursion, flat_map};
+
+/// Movies have the laws of a kind of files in its last form: a movie of which a place would pass 32 bits gets wide tables, each
+/// `stco` of a track made a `co64`. An accepted edit of user items and keys that isn't too large makes the old file edited, in place
+/// where it has room.
+pub fn mov_files_are_a_kind()
+    ensures { IsKind mov_kind }
+{}
 
 /// Movies have the laws of a kind of files, where each table of chunk places keeps its width: an accepted edit of user items and
 /// keys that isn't too large makes the old file edited, in place where it has room.
