@@ -21,7 +21,6 @@ mod table;
 #[cfg(test)]
 mod tests;
 
-pub use lawful::{entries_among, items_among};
 pub use read::read_keys;
 pub use set::set_key;
 pub use spell::spell_keys;
