@@ -20,7 +20,8 @@ use Rattle.avi_model.specs.Edited.{fields, changes, info_edit, new_file}
 use Rattle.avi_model.specs.Index.{renumbered}
 use Rattle.avi_model.specs.Kind.{avi_kind}
 use Rattle.avi_model.specs.Large.{too_large, too_large_by, all_checks, new_avi}
-use Rattle.avi_model.specs.NewFile.{Items, edit_cuts, riff_of, new_cells, laid, edited_file}
+use Rattle.avi_model.specs.NewFile.{Items, edit_cuts, new_cells, laid, edited_file}
+use Rattle.avi_model.specs.Named.{riff_of}
 use Rattle.avi_model.specs.Room.{has_room, patches_by, patches, Room}
 use Rattle.avi_model.specs.Support.{Supported, parts}
 use Rattle.avi_model.proofs.Edited.{EditedBy, nothing_done, items_law, read_back}

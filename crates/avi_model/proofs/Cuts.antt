@@ -11,7 +11,8 @@ use Rattle.carrier_model.specs.Lists.{edit_list_cells}
 use Rattle.carrier_model.specs.Info.{info, info_items, is_padding, riff_fill}
 use Rattle.carrier_model.proofs.Renewed.{renewed_cells, Fixed, LeftAlone, carried_renewed, cuts_shut, laid_shut}
 use Rattle.avi_model.specs.Avi.{Avi, inner, behind}
-use Rattle.avi_model.specs.NewFile.{Items, cell_by, cell_of, home, ends_file, new_cells, new_children, pad_after, edit_cuts}
+use Rattle.avi_model.specs.NewFile.{Items, home, new_cells, new_children, pad_after, edit_cuts}
+use Rattle.avi_model.specs.Named.{cell_by, cell_of, ends_file}
 use Rattle.carrier_model.specs.RiffForm.{new_pad, pad_cut}
 use Rattle.container_model.specs.Items.{is_nil}
 use Rattle.avi_model.proofs.Read.{renewed_avi, others_place}

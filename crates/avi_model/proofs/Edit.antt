@@ -20,7 +20,8 @@ use Rattle.carrier_model.proofs.Info.{made_padded, made_plain, info_rereads, par
 use Rattle.carrier_model.proofs.Lists.{lists_values, lists_end, lists_nodes}
 use Rattle.carrier_model.proofs.Views.{laid_view}
 use Rattle.avi_model.specs.Avi.{Avi, inner, behind as after_form, spell_avi, avi_of}
-use Rattle.avi_model.specs.NewFile.{Items, home as behind_hdrl, cell_by, cell_of, ends_file, new_cells, new_children, laid}
+use Rattle.avi_model.specs.NewFile.{Items, home as behind_hdrl, new_cells, new_children, laid}
+use Rattle.avi_model.specs.Named.{cell_by, cell_of, ends_file}
 use Rattle.carrier_model.specs.RiffForm.{new_pad}
 use Rattle.container_model.specs.Items.{is_nil}
 use Rattle.avi_model.specs.Edited.{info_values}
@@ -51,7 +52,7 @@ makes_lists P good e cs = go (has_carrier info cs)
 
 -- ---- the cells of the form
 
-cells_all : (P : Chunk → Type 0) (cs : List Chunk) → AllByRecursion P cs → AllCells P (map cell_of cs)
+pub cells_all : (P : Chunk → Type 0) (cs : List Chunk) → AllByRecursion P cs → AllCells P (map cell_of cs)
 cells_all P [] h = tt
 cells_all P (c ∷ cs) h = go (is_padding c) (cells_all P cs h.1)
   where
@@ -59,7 +60,7 @@ cells_all P (c ∷ cs) h = go (is_padding c) (cells_all P cs h.1)
     go true g = (h.0, g)
     go false g = (h.0, g)
 
-cells_gaps : (P : Chunk → Type 0) → ((c : Chunk) → is_padding c ≡ true → P c) → (cs : List Chunk) → Gaps P (map cell_of cs)
+pub cells_gaps : (P : Chunk → Type 0) → ((c : Chunk) → is_padding c ≡ true → P c) → (cs : List Chunk) → Gaps P (map cell_of cs)
 cells_gaps P f [] = tt
 cells_gaps P f (c ∷ cs) = go (is_padding c) refl (cells_gaps P f cs)
   where

@@ -17,7 +17,8 @@ use Rattle.carrier_model.proofs.Cells.{pads_acted}
 use Rattle.carrier_model.proofs.Few.{copied_cells, form_few}
 use Rattle.carrier_model.proofs.Info.{made_padded}
 use Rattle.avi_model.specs.Avi.{Avi, top, hdrls, is_movi}
-use Rattle.avi_model.specs.NewFile.{Items, home, cell_by, cell_of, riff_of, new_cells, new_children}
+use Rattle.avi_model.specs.NewFile.{Items, home, new_cells, new_children}
+use Rattle.avi_model.specs.Named.{cell_by, cell_of, riff_of}
 use Rattle.avi_model.specs.Room.{patches_of}
 use Rattle.avi_model.specs.Support.{movis}
 use Rattle.avi_model.proofs.Edit.{act_of, makes_lists, cells_pads}

@@ -10,7 +10,8 @@ use Rattle.container_model.proofs.Splice.{before_lost, behind_lost}
 use Rattle.container_model.proofs.Places.{Before, old_length}
 use Rattle.container_model.proofs.Copied.{Later}
 use Rattle.avi_model.specs.Avi.{Avi, inner}
-use Rattle.avi_model.specs.NewFile.{Items, ends_file, new_cells, pad_after, edit_cuts}
+use Rattle.avi_model.specs.NewFile.{Items, new_cells, pad_after, edit_cuts}
+use Rattle.avi_model.specs.Named.{ends_file}
 use Rattle.carrier_model.specs.RiffForm.{pad_cut}
 use Rattle.avi_model.proofs.Tables.{pad_later}
 use Rattle.carrier_model.specs.Info.{made, room, fill_by, riff_fill}

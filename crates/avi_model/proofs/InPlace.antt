@@ -28,7 +28,8 @@ use Rattle.avi_index.specs.Rows.{Base, from_start, old_rows, old_body, row_offse
 use Rattle.avi_model.specs.Support.{Supported, SoundEntries, SoundEntry, movi_spans, SoundRows}
 use Rattle.opendml_index.specs.Kinds.{SoundIndex, is_index_kind, second_lies}
 use Rattle.part_tree.specs.Ranges.{in_one}
-use Rattle.avi_model.specs.NewFile.{Items, riff_of, ends_file, new_cells, laid, edit_cuts, laid_file, edited_file}
+use Rattle.avi_model.specs.NewFile.{Items, new_cells, laid, edit_cuts, laid_file, edited_file}
+use Rattle.avi_model.specs.Named.{riff_of, ends_file}
 use Rattle.avi_model.specs.Edited.{changes, new_file}
 use Rattle.avi_model.specs.Room.{patches_of, patches_by, patches, Room}
 use Rattle.avi_model.proofs.Numbers.{Whole}

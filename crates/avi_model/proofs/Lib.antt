@@ -53,3 +53,11 @@ pub mod Turns
 pub mod Ordered
 mod Rising
 mod Relocated
+pub mod Respelled
+pub mod Placed
+pub mod Streams
+pub mod Blocks
+pub mod StreamsGo
+pub mod Children
+pub mod NamesSet
+pub mod NamesSpliced

@@ -27,7 +27,8 @@ use Rattle.avi_model.proofs.Cuts.{size_same}
 use Rattle.avi_model.proofs.Stands.{is_file}
 use Rattle.avi_model.specs.Index.{renumbered, indexes, writes, base, write_index, write_old}
 use Rattle.avi_model.specs.Large.{new_avi, all_checks}
-use Rattle.avi_model.specs.NewFile.{Items, home, cell_by, cell_of, riff_of, new_cells, new_size, pad_after, edit_cuts, moves, laid_file, edited_file, cut_of_write, table_cuts, put_cuts, size_cut, file_cuts}
+use Rattle.avi_model.specs.NewFile.{Items, home, new_cells, new_size, pad_after, edit_cuts, moves, laid_file, edited_file, cut_of_write, table_cuts, put_cuts, size_cut, file_cuts}
+use Rattle.avi_model.specs.Named.{cell_by, cell_of, riff_of}
 use Rattle.avi_model.specs.Splices.{IsOneSplice}
 use Rattle.avi_model.specs.Support.{Supported}
 use Rattle.avi_model.proofs.Among.{Among, among_all}

@@ -11,7 +11,8 @@ use Rattle.container_model.proofs.Units.{BringsPad, spell_all-append, units_old,
 use Rattle.container_model.proofs.Splice.{before_lost}
 use Rattle.container_model.proofs.Places.{old_length, cuts_ascend}
 use Rattle.avi_model.specs.Avi.{Avi, inner}
-use Rattle.avi_model.specs.NewFile.{Items, ends_file, new_cells, new_children, pad_after, laid, edit_cuts}
+use Rattle.avi_model.specs.NewFile.{Items, new_cells, new_children, pad_after, laid, edit_cuts}
+use Rattle.avi_model.specs.Named.{ends_file}
 use Rattle.carrier_model.specs.RiffForm.{pad_cut}
 use Rattle.avi_model.proofs.Tables.{was_new}
 use Rattle.carrier_model.specs.Info.{riff_fill}

@@ -5,7 +5,8 @@ use Rattle.container_model.specs.Splice.{splice}
 use Rattle.carrier_model.specs.RiffForm.{with_size}
 use Rattle.carrier_model.proofs.RiffForm.{IsRiff, new_is_spliced}
 use Rattle.avi_model.specs.Avi.{Avi, spell_avi}
-use Rattle.avi_model.specs.NewFile.{Items, riff_of, new_cells, new_size, laid, edit_cuts}
+use Rattle.avi_model.specs.NewFile.{Items, new_cells, new_size, laid, edit_cuts}
+use Rattle.avi_model.specs.Named.{riff_of}
 use Rattle.avi_model.proofs.Tables.{was_new}
 
 pub is_riff : (a : Avi) → IsRiff (riff_of a)

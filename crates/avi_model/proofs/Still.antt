@@ -16,7 +16,8 @@ use Rattle.carrier_model.proofs.Room.{riff_fits}
 use Rattle.avi_model.specs.Avi.{Avi, inner, behind}
 use Rattle.carrier_model.specs.RiffForm.{pad_cut}
 use Rattle.carrier_model.proofs.RiffForm.{ended_rest, size_stays, pad_stays}
-use Rattle.avi_model.specs.NewFile.{Items, riff_of, ends_file, new_cells, new_children, new_size, pad_after, edit_cuts}
+use Rattle.avi_model.specs.NewFile.{Items, new_cells, new_children, new_size, pad_after, edit_cuts}
+use Rattle.avi_model.specs.Named.{riff_of, ends_file}
 use Rattle.avi_model.proofs.Spans.{is_riff}
 use Rattle.avi_model.proofs.Read.{others_place}
 use Rattle.avi_model.proofs.Tables.{was_new, pad_later}

@@ -20,7 +20,8 @@ use Rattle.carrier_model.specs.Lists.{lists_act}
 use Rattle.carrier_model.proofs.Cells.{was_acted}
 use Rattle.carrier_model.proofs.Quiet.{quiet_lists}
 use Rattle.avi_model.specs.Avi.{Avi, inner, has_id, kids, top, stream_indexes, old_indexes, is_movi}
-use Rattle.avi_model.specs.NewFile.{Items, home, cell_by, cell_of, ends_file, new_cells, pad_after, laid, edit_cuts}
+use Rattle.avi_model.specs.NewFile.{Items, home, new_cells, pad_after, laid, edit_cuts}
+use Rattle.avi_model.specs.Named.{cell_by, cell_of, ends_file}
 use Rattle.carrier_model.specs.RiffForm.{pad_cut}
 use Rattle.avi_model.proofs.Types.{type_is, padding_id, and_none}
 use Rattle.avi_model.proofs.Read.{renewed_avi}

@@ -1,5 +1,8 @@
 pub mod Avi
 pub mod Index
+pub mod Named
+pub mod Heads
+pub mod NamesSet
 pub mod Pieces
 pub mod Support
 pub mod Reading

@@ -1,18 +1,19 @@
 -- The new file: the slots of edited lists replaced, and the numbers of the tables moved (this project's own).
-use Rattle.std.specs.Prelude.{ℕ, nat_le, List, [], ◌∷◌, length, map, Bool, true, false, codes, if◌then◌else◌}
+use Rattle.std.specs.Prelude.{ℕ, nat_le, List, [], ◌∷◌, length, map, codes, if◌then◌else◌}
 use Rattle.std.specs.Int.{w32, to_le_bytes}
 use Rattle.container_model.specs.Chunk.{riff, Chunk}
 use Rattle.container_model.specs.Items.{Item}
 use Rattle.container_model.specs.Splice.{Cut, end_of, shift}
-use Rattle.container_model.specs.Units.{Cell, kept, gap}
+use Rattle.container_model.specs.Units.{Cell}
 use Rattle.container_model.specs.Written.{Write}
 use Rattle.carrier_model.specs.Cells.{Test}
-use Rattle.carrier_model.specs.Info.{info, info_items, is_padding, is_type}
+use Rattle.carrier_model.specs.Info.{info, info_items, is_type}
 use Rattle.carrier_model.specs.Lists.{edit_list_cells}
 use Rattle.carrier_model.specs.RiffForm.{RiffForm, form_cuts}
 use Rattle.carrier_model.specs.RiffForm as form
 use Rattle.opendml_index.specs.Index.{How, move}
-use Rattle.avi_model.specs.Avi.{Avi, behind, spell_avi, avi_of}
+use Rattle.avi_model.specs.Avi.{Avi, spell_avi, avi_of}
+use Rattle.avi_model.specs.Named.{cell_of, riff_of}
 use Rattle.avi_model.specs.Index.{renumbered, write_index, write_old, base, indexes, olds}
 use Rattle.avi_model.specs.Support.{by_place}
 
@@ -25,23 +26,6 @@ Items = List (Item (List ℕ))
 -- a new list stands behind hdrl
 abbrev pub home : Test
 home id body = is_type (codes "hdrl") (record { form = riff; id = id; body = body; pad = [] })
-
--- padding is told from the other chunks
-abbrev pub cell_by : Chunk → Bool → Cell
-cell_by c true = gap c
-cell_by c false = kept c
-
--- a chunk as padding or as kept
-abbrev pub cell_of : Chunk → Cell
-cell_of c = cell_by c (is_padding c)
-
--- the first form, with the further forms and the tail behind it
-abbrev pub riff_of : Avi → RiffForm
-riff_of a = record { form = riff; id = codes "RIFF"; front = codes "AVI "; children = a.children; left = a.left; pad = a.pad; tail = behind a }
-
--- nothing stands behind the chunks of the first form
-abbrev pub ends_file : Avi → Bool
-ends_file a = form.ends_file (riff_of a)
 
 -- the chunks of the first form with its lists edited
 abbrev pub new_cells : Avi → Items → List Cell

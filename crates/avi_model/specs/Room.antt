@@ -5,7 +5,8 @@ use Rattle.part_tree.specs.declared.plan.Patch.{Patch}
 use Rattle.container_model.specs.Units.{Piece, shut, units}
 use Rattle.carrier_model.specs.RiffForm.{form_patches, form_room}
 use Rattle.avi_model.specs.Avi.{Avi, avi_of}
-use Rattle.avi_model.specs.NewFile.{Items, riff_of, new_cells}
+use Rattle.avi_model.specs.NewFile.{Items, new_cells}
+use Rattle.avi_model.specs.Named.{riff_of}
 use Rattle.avi_model.specs.Edited.{changes}
 
 -- the chunks of the first form, copied or replaced

@@ -12,7 +12,7 @@ ghost use Rattle.part_tree.specs.Moves.{Move};
 ghost use Rattle.part_tree.specs.Tables.{moved, relocated, RowsNamed, width};
 ghost use Rattle.container_model.specs.Written.{map_rows};
 ghost use Rattle.part_tree.specs.Parts.{count_parts};
-ghost use Rattle.container_model.specs.Chunk.{and_then, behind, Chunk, chunk_of, chunks, ends, Form, full_header, joined, passes, stopped, too_short};
+ghost use Rattle.container_model.specs.Chunk.{and_then, behind, Chunk, chunk_of, chunks, ends, Form, full_header, joined, passes, spell_all, stopped, too_short};
 ghost use Rattle.carrier_model.specs.Info.{list_run};
 ghost use Rattle.avi_model.specs.Avi.{avi_front, avi_of, essence, forms, inner};
 ghost use Rattle.part_tree.specs.declared.names.Span.{Span};
@@ -26,6 +26,8 @@ ghost use Rattle.avi_model.specs.Index.{indexes, olds, renumbered, spans, table_
 ghost use Rattle.opendml_index.specs.Index.{move, super_row, entry_row};
 ghost use Rattle.avi_model.specs.Support.{by_place, movi_spans, parts, Supported};
 ghost use Rattle.avi_model.specs.Why.{why};
+ghost use Rattle.avi_model.specs.Named.{Names, named};
+ghost use Rattle.avi_model.specs.NamesSet.{NamesSet};
 ghost use Rattle.avi_model.specs.NewFile.{moves};
 ghost use Rattle.avi_model.specs.Splices.{IsOneSplice};
 ghost use Rattle.field_model.specs.Kind.{IsKind};
@@ -114,4 +116,12 @@ pub fn rows_are_relocated()
         → width (Standard old base) * n ≤ length b → RowsNamed moves (Standard old base) n b
         → relocated moves (Standard old base) n b ++ drop (width (Standard old base) * n) b
         ≡ map_rows (width (Standard old base)) (entry_row (λ y. moved moves (old.base + y) - base)) n b }
+{}
+
+/// Other names are set in the streams' lists of a supported file, where the chunks of its first form then spell less than
+/// 2^32 bytes: they are read again, with the names that were set and all else where it stood; tables and essence stand where
+/// the spans that are replaced put them.
+pub fn names_are_set()
+    ensures { (b : List ℕ) (e : Names) → IsBytes b → Supported b → length (spell_all (named (avi_of b) e).children) < 2 ^ 32
+        → NamesSet (avi_of b) e }
 {}

@@ -8,7 +8,8 @@ use Rattle.container_model.specs.Written.{slice}
 use Rattle.container_model.proofs.Written.{length-slice}
 use Rattle.riff_form.specs.declared.ChunkAt.{ChunkAt}
 use Rattle.riff_form.specs.Walk.{InOrder, chunk_in, row}
-use Rattle.avi_names.specs.Names.{is_name, is_head, names_from, behind_heads, chunks_of, names_of, new_place}
+use Rattle.carrier_model.specs.Names.{is_name, is_head}
+use Rattle.avi_names.specs.Names.{names_from, behind_heads, chunks_of, names_of, new_place}
 
 -- the names that were found, and those of the chunks from a place on, are all
 pub record NamesLeft (at : ℕ) (rest : Run) (found all : List Span) : Type 0 where

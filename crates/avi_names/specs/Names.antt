@@ -1,20 +1,12 @@
 -- The names of a stream in its list (AVI RIFF File Reference, strl).
-use Rattle.std.specs.Prelude.{◌≡◌, ℕ, ◌+◌, List, [], ◌∷◌, ◌++◌, length, Bool, ◌||◌, codes, if◌then◌else◌}
-use Rattle.std.specs.Str.{bytes_eq}
+use Rattle.std.specs.Prelude.{◌≡◌, ℕ, ◌+◌, List, [], ◌∷◌, ◌++◌, length, codes, if◌then◌else◌}
 use Rattle.me_disk.specs.Disk.{Disk}
 use Rattle.me_disk.specs.Holds.{Holds}
 use Rattle.part_tree.specs.declared.names.Span.{Span}
 use Rattle.container_model.specs.Chunk.{Chunk, Run, spell, ends}
 use Rattle.carrier_model.specs.Info.{made}
+use Rattle.carrier_model.specs.Names.{is_name, is_head}
 use Rattle.riff_form.specs.Walk.{row}
-
--- a name
-abbrev pub is_name : Chunk → Bool
-is_name c = bytes_eq c.id (codes "strn")
-
--- a chunk behind which a new name stands
-abbrev pub is_head : Chunk → Bool
-is_head c = bytes_eq c.id (codes "strh") || (bytes_eq c.id (codes "strf") || bytes_eq c.id (codes "strd"))
 
 -- the bodies of the names among chunks that stand from a place on, in order
 abbrev pub names_from : ℕ → List Chunk → List Span

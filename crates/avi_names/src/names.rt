@@ -5,7 +5,8 @@ ghost use Rattle.me_disk.specs.Holds.{Holds, Inside};
 ghost use Rattle.me_disk.specs.Steps.{HasCause, ReadsOnly};
 ghost use Rattle.container_model.specs.Chunk.{riff};
 ghost use Rattle.riff_form.specs.Walk.{chunk_in};
-ghost use Rattle.avi_names.specs.Names.{IsWhole, is_head as stands_first, names_of, new_place};
+ghost use Rattle.carrier_model.specs.Names.{is_head as stands_first};
+ghost use Rattle.avi_names.specs.Names.{IsWhole, names_of, new_place};
 
 use me_disk::{Depot, DepotFault};
 use part_tree::Span;

@@ -1,10 +1,9 @@
 -- A place in no span is where the ranges between them put it, and that is where the spans shift it.
-use Rattle.std.proofs.Common.{◌≡◌, ℕ, ◌+◌, ◌-◌, ◌<◌, ◌≤◌, Bool, true, false, cond, leb, ltb, List, [], ◌∷◌, length, refl, sym, ap, ◌∙◌, arith, inl, inr}
-use Rattle.std.specs.Prelude.{◌⊎◌, ◌&&◌, Option, Some, None}
-use Rattle.std.proofs.lemmas.Bool.{cases_lt, le-leb, lt-leb, lt-ltb, le-ltb}
-use Rattle.part_tree.specs.declared.names.Span.{Span}
-use Rattle.part_tree.specs.Moves.{Move, holds, place}
-use Rattle.container_model.specs.Splice.{Cut, end_of, Ascend, gained, lost, shift, Outside}
+use Rattle.std.proofs.Common.{◌≡◌, ℕ, ◌+◌, ◌-◌, ◌<◌, ◌≤◌, Bool, cond, ltb, List, [], ◌∷◌, length, ap, ◌∙◌, arith, inl, inr}
+use Rattle.std.specs.Prelude.{◌⊎◌, ◌&&◌, Some}
+use Rattle.std.proofs.lemmas.Bool.{le-leb, lt-ltb, le-ltb}
+use Rattle.part_tree.specs.Moves.{Move, place}
+use Rattle.container_model.specs.Splice.{Cut, end_of, Ascend, shift, Outside}
 use Rattle.container_model.proofs.Splice.{before_lost, behind_lost, lost_low}
 use Rattle.carrier_model.specs.Gaps.{between, moves_of}
 

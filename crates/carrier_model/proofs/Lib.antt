@@ -11,3 +11,4 @@ pub mod Steps
 pub mod RiffForm
 pub mod Few
 pub mod Gaps
+pub mod Names

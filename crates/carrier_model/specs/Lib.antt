@@ -5,3 +5,4 @@ pub mod Room
 pub mod Steps
 pub mod RiffForm
 pub mod Gaps
+pub mod Names

@@ -113,7 +113,7 @@ module _ (p : Chunk → Bool) (fill : Fill) (fills : (last : Bool) (slot : List 
   quiet_kept true c more h = h (begun (c ∷ []) [] []) (refl, tt)
   quiet_kept false c more h = h shut tt
 
-  quiet_units : (s : Slot) (xs : List Cell) → QuietSlot p s → Quiet p xs → QuietPieces p fill (units s xs)
+  pub quiet_units : (s : Slot) (xs : List Cell) → QuietSlot p s → Quiet p xs → QuietPieces p fill (units s xs)
   unfolding units
   quiet_units s [] h g = quiet_closed true s h
   quiet_units s (kept c ∷ xs) h g = quiet_both (closed false s) _ (quiet_closed false s h) (quiet_kept (lacks_pad c && not (is_empty xs)) c (λ t. units t xs) (λ t k. quiet_units t xs k g))
@@ -123,7 +123,7 @@ module _ (p : Chunk → Bool) (fill : Fill) (fills : (last : Bool) (slot : List 
   quiet_units (begun lead slot now) (edited old new ∷ xs) h g = quiet_units (begun lead (slot ++ spell_all old) (now ++ new)) xs (h.0, unseen_both p now new h.1 g.1) g.2
 
   -- what is looked for in the new list
-  new_stood : (at to : ℕ) (ps : List Piece) → BringsPad ps → QuietPieces p fill ps → map new_of (only_pairs p (pairs fill at to ps)) ≡ only p (stood to (lay fill ps))
+  pub new_stood : (at to : ℕ) (ps : List Piece) → BringsPad ps → QuietPieces p fill ps → map new_of (only_pairs p (pairs fill at to ps)) ≡ only p (stood to (lay fill ps))
   new_stood at to [] b h = refl
   new_stood at to (copied c ∷ ps) b h = go (p (bare c)) (new_stood (at + length (spell c)) (to + length (spell c)) ps b h)
     where
@@ -204,7 +204,7 @@ module _ (p : Chunk → Bool) (fill : Fill) (fills : (last : Bool) (slot : List 
   passed : (at : ℕ) (a b : List Chunk) → Unseen p a → only p (stood at (a ++ b)) ≡ only p (stood (at + length (spell_all a)) b)
   passed at a b h = ap (only p) (stood-append at a b) ∙ only-append p (stood at a) (stood (at + length (spell_all a)) b) ∙ ap (λ (k : List Stood). k ++ only p (stood (at + length (spell_all a)) b)) (only_unseen p at a h)
 
-  old_stood : (s : Slot) (xs : List Cell) (to : ℕ) → QuietSlot p s → Quiet p xs → (at : ℕ) → olds at to (units s xs) ≡ only p (stood at (lead_of s)) ++ only p (stood (at + length (begun_bytes s)) (flat_map was xs))
+  pub old_stood : (s : Slot) (xs : List Cell) (to : ℕ) → QuietSlot p s → Quiet p xs → (at : ℕ) → olds at to (units s xs) ≡ only p (stood at (lead_of s)) ++ only p (stood (at + length (begun_bytes s)) (flat_map was xs))
   unfolding units
   old_stood shut [] to h g at = refl
   old_stood (begun lead slot now) [] to h g at = old_unit at to lead slot now true [] [] h.0 (λ t. refl)
@@ -231,15 +231,15 @@ module _ (p : Chunk → Bool) (fill : Fill) (fills : (last : Bool) (slot : List 
 
 -- ---- the places of a copied chunk move as one
 
-before_none : (cs : List Cut) (q : ℕ) → Before q cs → Outside cs q × (gained cs q ≡ 0) × (lost cs q ≡ 0)
+pub before_none : (cs : List Cut) (q : ℕ) → Before q cs → Outside cs q × (gained cs q ≡ 0) × (lost cs q ≡ 0)
 before_none [] q h = (tt, refl, refl)
 before_none (c ∷ cs) q h = let z = behind_lost c cs q h.0 in ((inl h.0, (before_none cs q h.1).0), z.0, z.1)
 
-before_both : (q : ℕ) (a b : List Cut) → Before q a → Before q b → Before q (a ++ b)
+pub before_both : (q : ℕ) (a b : List Cut) → Before q a → Before q b → Before q (a ++ b)
 before_both q [] b h g = g
 before_both q (c ∷ a) b h g = (h.0, before_both q a b h.1 g)
 
-abbrev Goes : List Cut → ℕ → ℕ → Pair → Type 0
+abbrev pub Goes : List Cut → ℕ → ℕ → Pair → Type 0
 Goes cs at to x = (at ≤ x.old) × ((i : ℕ) → i < length (spell x.chunk) → Outside cs (x.old + i) × ((x.old + i) + gained cs (x.old + i) + to ≡ x.new + i + at + lost cs (x.old + i)))
 
 pub bare_short : (c : Chunk) → length (spell (bare c)) ≤ length (spell c)
@@ -254,15 +254,15 @@ Later e more = (q : ℕ) → q < e → Before q more
 lead_short : (c : Chunk) (cs : List Chunk) → length (spell c) ≤ length (spell_all (c ∷ cs))
 lead_short c cs = omega (arith, length-append (spell c) (spell_all cs))
 
-All-steps : (P Q : Pair → Type 0) → ((x : Pair) → P x → Q x) → (xs : List Pair) → AllByRecursion P xs → AllByRecursion Q xs
+pub All-steps : (P Q : Pair → Type 0) → ((x : Pair) → P x → Q x) → (xs : List Pair) → AllByRecursion P xs → AllByRecursion Q xs
 All-steps P Q f [] h = tt
 All-steps P Q f (x ∷ xs) h = (f x h.0, All-steps P Q f xs h.1)
 
-All-pairs : (P : Pair → Type 0) (a b : List Pair) → AllByRecursion P a → AllByRecursion P b → AllByRecursion P (a ++ b)
+pub All-pairs : (P : Pair → Type 0) (a b : List Pair) → AllByRecursion P a → AllByRecursion P b → AllByRecursion P (a ++ b)
 All-pairs P [] b h g = g
 All-pairs P (x ∷ a) b h g = (h.0, All-pairs P a b h.1 g)
 
-pairs_go : (fill : Fill) (at to : ℕ) (ps : List Piece) (more : List Cut) → Later (at + old_length ps) more → AllByRecursion (Goes (cuts fill at ps ++ more) at to) (pairs fill at to ps)
+pub pairs_go : (fill : Fill) (at to : ℕ) (ps : List Piece) (more : List Cut) → Later (at + old_length ps) more → AllByRecursion (Goes (cuts fill at ps ++ more) at to) (pairs fill at to ps)
 pairs_go fill at to [] more h = tt
 pairs_go fill at to (copied c ∷ ps) more h =
     let k = length (spell c) in
@@ -321,7 +321,7 @@ Moves_as_one f Ok s = Rigid f Ok s.at (length (spell s.chunk))
 pub spell_some : (c : Chunk) → 0 < length (spell c)
 spell_some c = omega (arith, as_many (c ∷ []), length-append (spell c) [])
 
-All-kept : (P : Pair → Type 0) (p : Chunk → Bool) (xs : List Pair) → AllByRecursion P xs → AllByRecursion P (only_pairs p xs)
+pub All-kept : (P : Pair → Type 0) (p : Chunk → Bool) (xs : List Pair) → AllByRecursion P xs → AllByRecursion P (only_pairs p xs)
 All-kept P p [] h = tt
 All-kept P p (x ∷ xs) h = go (p x.chunk) (All-kept P p xs h.1)
   where
@@ -337,7 +337,7 @@ goes_rigid cs at x g =
     let first : shift cs x.old ≡ x.new = omega (arith, zero) in
     (first, λ i lt. ((g.1 i lt).0, omega (arith, (g.1 i lt).1, first)))
 
-pairs_moved : (cs : List Cut) (at : ℕ) (xs : List Pair) → AllByRecursion (Goes cs at at) xs
+pub pairs_moved : (cs : List Cut) (at : ℕ) (xs : List Pair) → AllByRecursion (Goes cs at at) xs
     → (map new_of xs ≡ map (moved_to (shift cs)) (map old_of xs)) × AllByRecursion (Moves_as_one (shift cs) (Outside cs)) (map old_of xs)
 pairs_moved cs at [] h = (refl, tt)
 pairs_moved cs at (x ∷ xs) h =

@@ -23,3 +23,4 @@ pub mod Walk
 pub mod Cuts
 pub mod Tests
 pub mod Tables
+pub mod Goes

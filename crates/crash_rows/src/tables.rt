@@ -15,7 +15,7 @@ ghost use Rattle.crash_rows.specs.Tables.{gone, parts, tables};
 use crate::runs::reopened;
 use file_swap::Swap;
 use me_bytes::{put_be32, put_le32};
-use me_disk::{Depot, MemoryDepot, Pick, Room};
+use me_disk::{Depot, FailAt, MemoryDepot, Pick, Room};
 use part_tree::{
     Base, Bytes, FourCc, IndexHead, Moves, NoMemory, Plan, Segment, Segments, Span, TableForm,
 };
@@ -191,11 +191,12 @@ pub fn run_tables<D: Depot>(depot: &mut D, swap: Swap) -> bool
     swap.run(depot).is_ok()
 }
 
-/// The rewrite of the file, stopped after n calls and opened again, and whether it was done. None where the rewrite is no plan
-/// for the file.
+/// The rewrite of the file, of which these calls fail, stopped after n calls and opened again, and whether it was done. None
+/// where the rewrite is no plan for the file.
 pub fn stopped_tables(
     alloc: Global,
     n: u64,
+    failing: Vec<FailAt>,
     pick: Pick,
 ) -> Result<Option<(MemoryDepot, bool)>, NoMemory>
     ensures { IfOk result (λ o. IfSome o (λ run. Only (read_as (memory_disk run.0).slots) (memory_disk run.0))) }
@@ -204,7 +205,7 @@ pub fn stopped_tables(
     if !is_for(alloc, &file)? {
         return Ok(None);
     }
-    let mut depot = MemoryDepot::new(alloc, Some(file), None, ENOUGH, Vec::new(alloc))?;
+    let mut depot = MemoryDepot::new(alloc, Some(file), None, ENOUGH, failing)?;
     let swap = tables_swap(alloc)?;
     depot.stop_after(n);
     let done = run_tables(&mut depot, swap);

@@ -307,18 +307,45 @@ fn table_bytes(alloc: Global, old: bool) -> Result<Vec<u8>, NoMemory> {
     }
 }
 
-// The rewrite has 16 calls: each segment's reads and appends, two pages of chunk places, and three others.
+// The rewrite with tables, stopped after n calls: it has 16, each segment's reads and appends, two pages of chunk places, and
+// three others. What each of some crashes leaves is recovered.
+fn check_tables(
+    rt: &impl Abort,
+    alloc: Global,
+    n: u64,
+    failing: Option<FailAt>,
+    old: bool,
+) -> Result<(), Fail> {
+    let want = table_bytes(alloc, old)?;
+    for k in 0..4 {
+        let mut list = Vec::new(alloc);
+        if let Some(call) = failing {
+            list.push(call)?;
+        }
+        let Some((depot, done)) = stopped_tables(alloc, n, list, pick_of(k))? else {
+            return Err(Fail::from(NoMemory));
+        };
+        assert_eq!(rt; done, n >= 16 && failing.is_none());
+        assert!(rt; is_recovered(depot, &want));
+    }
+    Ok(())
+}
+
 #[test]
 fn tables_stopped_anywhere_leave_the_old_file_or_the_new(rt: HostRuntime) -> Result<(), Fail> {
     for n in 0..17 {
-        let want = table_bytes(rt.alloc(), n < 16)?;
-        for k in 0..4 {
-            let Some((depot, done)) = stopped_tables(rt.alloc(), n, pick_of(k))? else {
-                return Err(Fail::from(NoMemory));
-            };
-            assert_eq!(rt; done, n >= 16);
-            assert!(rt; is_recovered(depot, &want));
-        }
+        check_tables(&rt, rt.alloc(), n, None, n < 16)?;
+    }
+    Ok(())
+}
+
+#[test]
+fn a_rewrite_with_tables_survives_each_call_failing_once(rt: HostRuntime) -> Result<(), Fail> {
+    for call in 1..17 {
+        let done = FailAt { call, done: true };
+        let undone = FailAt { call, done: false };
+        check_tables(&rt, rt.alloc(), 17, Some(undone), true)?;
+        check_tables(&rt, rt.alloc(), 17, Some(done), call < 16)?;
     }
     Ok(())
 }

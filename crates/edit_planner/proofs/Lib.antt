@@ -12,3 +12,5 @@ pub mod Unmet
 pub mod Ready
 pub mod Formed
 pub mod OfKind
+pub mod MapTells
+pub mod Widens

@@ -11,9 +11,9 @@ use Rattle.part_tree.specs.declared.why.Why.{Why}
 use Rattle.field_model.specs.Kind.{KindModel, IsKind}
 use Rattle.container_model.specs.Tests.{first, or_else}
 use Rattle.wave_model.specs.Edited.{is_kind}
-use Rattle.wave_model.specs.Kind.{narrow_kind}
+use Rattle.wave_model.specs.Kind.{wave_kind}
 use Rattle.wave_model.specs.Why.{why, kind_tests}
-use Rattle.wave_model.proofs.Narrow.{narrow_law}
+use Rattle.wave_model.proofs.Kind.{wave_law}
 use Rattle.edit_planner.specs.declared.plans.FileMap.{FileMap}
 use Rattle.edit_planner.specs.declared.plans.FileMap.TheVariants as map
 use Rattle.edit_planner.specs.Plan.{Maps}
@@ -38,10 +38,10 @@ later_law which = record {
 laws : (w : Option Kind) → IsKind (model_of w)
 laws (Some Avi) = later_law Avi
 laws (Some Mov) = later_law Mov
-laws (Some Wave) = narrow_law
-laws (Some Rf64) = narrow_law
-laws (Some Bw64) = narrow_law
-laws None = narrow_law
+laws (Some Wave) = wave_law
+laws (Some Rf64) = wave_law
+laws (Some Bw64) = wave_law
+laws None = wave_law
 
 pub law : (o : List ℕ) → IsKind (model_in o)
 unfolding laws
@@ -50,7 +50,7 @@ law o = of_kind IsKind o (kind_at o) refl (laws (kind_at o))
 -- ---- a WAVE file
 
 -- what holds of WAVE files holds of each file whose kind isn't read later
-wave_model : (P : KindModel → Type 0) (w : Option Kind) → is_later w ≡ false → P narrow_kind → P (model_of w)
+wave_model : (P : KindModel → Type 0) (w : Option Kind) → is_later w ≡ false → P wave_kind → P (model_of w)
 wave_model P None h p = p
 wave_model P (Some Wave) h p = p
 wave_model P (Some Rf64) h p = p
@@ -58,7 +58,7 @@ wave_model P (Some Bw64) h p = p
 wave_model P (Some Avi) h p = absurd cc
 wave_model P (Some Mov) h p = absurd cc
 
-pub of_wave : (P : KindModel → Type 0) (o : List ℕ) → is_later (kind_at o) ≡ false → P narrow_kind → P (model_in o)
+pub of_wave : (P : KindModel → Type 0) (o : List ℕ) → is_later (kind_at o) ≡ false → P wave_kind → P (model_in o)
 of_wave P o now p = of_kind P o (kind_at o) refl (wave_model P (kind_at o) now p)
 
 -- a file that is refused as one of its kind is

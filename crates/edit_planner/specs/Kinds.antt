@@ -5,7 +5,7 @@ use Rattle.part_tree.specs.declared.names.Kind.{Kind}
 use Rattle.part_tree.specs.declared.names.Kind.TheVariants.{Avi, Mov}
 use Rattle.part_tree.specs.declared.why.Why.TheVariants.{NotBuilt}
 use Rattle.field_model.specs.Kind.{KindModel}
-use Rattle.wave_model.specs.Kind.{narrow_kind}
+use Rattle.wave_model.specs.Kind.{wave_kind}
 
 -- the kind that a file's first bytes tell
 abbrev pub kind_at : List ℕ → Option Kind
@@ -45,7 +45,7 @@ later_kind which = record {
 abbrev pub model_of : Option Kind → KindModel
 model_of (Some Avi) = later_kind Avi
 model_of (Some Mov) = later_kind Mov
-model_of _ = narrow_kind
+model_of _ = wave_kind
 
 -- what the kind of a file is
 unfoldable pub model_in : List ℕ → KindModel

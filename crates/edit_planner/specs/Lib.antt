@@ -5,3 +5,4 @@ pub mod Lists
 pub mod Stand
 pub mod Places
 pub mod Plan
+pub mod Facts

@@ -106,10 +106,10 @@ TellsLarge ss (Ok x) = first_above ss ≡ None
 TellsLarge ss (Err (TooLarge size)) = first_above ss ≡ Some (limited (2 ^ 24) size)
 TellsLarge ss (Err Memory) = Unit {0}
 
--- a size that is too large is told, where 64 bits tell it
+-- a size that is too large is told where 64 bits tell it, and only else is it want of memory
 abbrev pub IsLarge : ℕ → ListsFault → Type 0
 IsLarge size (TooLarge told) = (told ≡ size) × (size < 2 ^ 64 - 1)
-IsLarge size Memory = Unit {0}
+IsLarge size Memory = 2 ^ 64 - 1 ≤ size
 
 -- ---- a new list
 

@@ -3,16 +3,18 @@ ghost use Rattle.std.specs.Prelude.{◌≡◌, ℕ, List, IfOk};
 ghost use Rattle.me_disk.specs.Causes.{Rose};
 ghost use Rattle.me_disk.specs.Holds.{Holds};
 ghost use Rattle.me_disk.specs.Steps.{HasCause, ReadsOnly};
+ghost use Rattle.part_tree.specs.Fields.{IsMap};
 ghost use Rattle.field_model.specs.KindReads.{ReadsKind};
 ghost use Rattle.edit_planner.specs.Kinds.{kind_at, model_in};
 ghost use Rattle.edit_planner.specs.Kinds as spec;
+ghost use Rattle.edit_planner.specs.Facts.{IsRead};
 ghost use Rattle.edit_planner.specs.Plan.{Maps, SoundMap};
 
 use crate::plans::FileMap;
 use me_disk::{Depot, DepotFault, Slot};
 use part_tree::{Kind, ReadFault, Why, kind_of};
 use std::alloc::Global;
-use wave_file::read_wave;
+use wave_file::{WaveMap, read_wave};
 
 // The kind of a file, by its first bytes.
 fn read_kind<D: Depot>(depot: &mut D) -> Result<Option<Kind>, DepotFault>
@@ -37,11 +39,20 @@ fn is_later(kind: Option<Kind>) -> bool
     }
 }
 
+// A map of a WAVE file as that of a file of some kind.
+fn of_wave(map: WaveMap) -> FileMap
+    ensures same { result ≡ FileMap.Wave map }
+    ensures ordered { IsMap map.fields }
+{
+    FileMap::Wave(map)
+}
+
 /// The map of a file, whatever its kind, or the first reason for which it is refused. The depot is only read. `Depot` only where
 /// the count of the depot's faults rose.
 pub fn read<D: Depot>(alloc: Global, depot: &mut D) -> Result<FileMap, ReadFault>
     ensures file { (o : List ℕ) → Holds (D.disk depot.old) o → ReadsKind (model_in o) Maps o result }
     ensures sound { IfOk result (λ map. SoundMap map) }
+    ensures tells { IfOk result (λ map. IsRead (D.disk depot.old) map) }
     ensures reads { ReadsOnly (D.disk depot.old) (D.disk depot.new) }
     ensures cause { result ≡ Err ReadFault.Depot → Rose (D.disk depot.old).faults (D.disk depot.new).faults }
 {
@@ -54,6 +65,6 @@ pub fn read<D: Depot>(alloc: Global, depot: &mut D) -> Result<FileMap, ReadFault
     }
     match read_wave(alloc, depot) {
         Err(fault) => Err(fault),
-        Ok(map) => Ok(FileMap::Wave(map)),
+        Ok(map) => Ok(of_wave(map)),
     }
 }

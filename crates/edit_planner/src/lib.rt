@@ -9,6 +9,7 @@ ghost use Rattle.edit_planner.specs.Kinds.{model_in};
 mod bext;
 mod cells;
 mod edit;
+mod facts;
 mod kinds;
 mod lists;
 mod load;

@@ -12,11 +12,11 @@ use std::test::Fail;
 use unit_plan::{Place, What};
 use wave_file::read_wave;
 
-// A form of WAVE with these chunks behind `fmt ` and `data`; its size is the fifth byte.
-fn file_of(alloc: Global, size: u8, more: &[u8]) -> Result<Vec<u8>, Fail> {
+// A form of WAVE of this size with these chunks behind `fmt ` and `data`.
+fn file_of(alloc: Global, size: u16, more: &[u8]) -> Result<Vec<u8>, Fail> {
     let mut file = Vec::new(alloc);
     file.extend_from_slice(b"RIFF")?;
-    file.extend_from_slice(&[size, 0, 0, 0])?;
+    file.extend_from_slice(&u32::from(size).to_le_bytes())?;
     file.extend_from_slice(
         b"WAVEfmt \x10\0\0\0\x01\0\x01\0\x44\xac\0\0\x88\x58\x01\0\x02\0\x10\0",
     )?;
@@ -130,6 +130,19 @@ fn a_list_is_edited_once(rt: HostRuntime) -> Result<(), Fail> {
     assert_eq!(rt; row.places.len(), 3);
     assert_eq!(rt; shown(&row.places[2]), (48, 80, 2, 2));
     assert_eq!(rt; bytes_of(&row.places[2]), LIST);
+    Ok(())
+}
+
+#[test]
+fn a_long_list_is_read_again(rt: HostRuntime) -> Result<(), Fail> {
+    let alloc = rt.alloc();
+    // a comment of 4,288 bytes
+    let mut more = b"LIST\xCC\x10\0\0INFOICMT\xC0\x10\0\0".to_vec(alloc)?;
+    more.extend_from_slice(&[b'a'; 4_288])?;
+    let row = row_of(alloc, file_of(alloc, 4_348, &more)?, title(alloc)?)?;
+    assert_eq!(rt; row.places.len(), 3);
+    assert_eq!(rt; shown(&row.places[2]), (48, 4_356, 3, 2));
+    assert_eq!(rt; bytes_of(&row.places[2]).len(), 4_320);
     Ok(())
 }
 

@@ -16,7 +16,10 @@ pub use files::{
 };
 pub use rows::{Held, Row, goes};
 pub use runs::{Ran, depot_of, holds, paper, run_on, run_told, words_of};
-pub use sparse::{HELLO, five_gigabytes, full_wave, has_len, shows};
+pub use sparse::{
+    FULL_WIDENED, HELLO, HI, ROOMY_WIDENED, WIDE_SOUND, five_gigabytes, full_wave, has_len,
+    narrow_wave, roomy_wave, shows,
+};
 pub use stops::{
     NO_EDIT, RECOVER, calls_of, is_done_within, is_recovered, pick_of, plain, stop, stopped,
     survives, survives_twice,

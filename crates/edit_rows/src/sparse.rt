@@ -18,6 +18,28 @@ const SOUND_HEAD: &[u8] = b"data\xff\xff\xff\xff";
 const FULL_HEAD: &[u8] =
     b"RIFF\xf0\xff\xff\xffWAVEfmt \x10\x00\x00\x00\x01\x00\x01\x00D\xac\x00\x00\x88X\x01\x00\x02\x00\x10\x00data\xcc\xff\xff\xff";
 
+// A WAVE file with a `JUNK` of 28 bytes behind its type, up to the size of its sound; and the same with two bytes less.
+const ROOMY_HEAD: &[u8] =
+    b"RIFF\xe8\xff\xff\xffWAVEJUNK\x1c\x00\x00\x00\x00\x00\x00\x00\x00\x00\x00\x00\x00\x00\x00\x00\x00\x00\x00\x00\x00\x00\x00\x00\x00\x00\x00\x00\x00\x00\x00\x00fmt \x10\x00\x00\x00\x01\x00\x01\x00D\xac\x00\x00\x88X\x01\x00\x02\x00\x10\x00data\xa0\xff\xff\xff";
+
+const NARROW_HEAD: &[u8] =
+    b"RIFF\xe6\xff\xff\xffWAVEJUNK\x1c\x00\x00\x00\x00\x00\x00\x00\x00\x00\x00\x00\x00\x00\x00\x00\x00\x00\x00\x00\x00\x00\x00\x00\x00\x00\x00\x00\x00\x00\x00\x00fmt \x10\x00\x00\x00\x01\x00\x01\x00D\xac\x00\x00\x88X\x01\x00\x02\x00\x10\x00data\x9e\xff\xff\xff";
+
+/// The head of the full file with its title, made RF64: up to `fmt `.
+pub const FULL_WIDENED: &[u8] =
+    b"RF64\xff\xff\xff\xffWAVEds64\x1c\x00\x00\x00,\x00\x00\x00\x01\x00\x00\x00\xcc\xff\xff\xff\x00\x00\x00\x00\xe6\xff\xff\x7f\x00\x00\x00\x00\x00\x00\x00\x00";
+
+/// The head of the roomy file with its title, made RF64: up to `fmt `.
+pub const ROOMY_WIDENED: &[u8] =
+    b"RF64\xff\xff\xff\xffWAVEds64\x1c\x00\x00\x00\x00\x00\x00\x00\x01\x00\x00\x00\xa0\xff\xff\xff\x00\x00\x00\x00\xd0\xff\xff\x7f\x00\x00\x00\x00\x00\x00\x00\x00";
+
+/// `fmt ` and the header of a sound whose size stands in `ds64`.
+pub const WIDE_SOUND: &[u8] =
+    b"fmt \x10\x00\x00\x00\x01\x00\x01\x00D\xac\x00\x00\x88X\x01\x00\x02\x00\x10\x00data\xff\xff\xff\xff";
+
+/// The list with the title `Hi`.
+pub const HI: &[u8] = b"LIST\x10\x00\x00\x00INFOINAM\x03\x00\x00\x00Hi\x00\x00";
+
 /// The list with the title `Hello`, and the header of the padding behind it.
 pub const HELLO: &[u8] =
     b"LIST\x12\x00\x00\x00INFOINAM\x06\x00\x00\x00Hello\x00JUNK\xf6\x03\x00\x00";
@@ -48,6 +70,26 @@ pub fn full_wave(alloc: Global) -> Result<SparseDepot, NoMemory>
 {
     let head = Run::Bytes(FULL_HEAD.to_vec(alloc)?);
     let runs = vec![in alloc; head, Run::Zero(4_294_967_244)];
+    depot_of_runs(alloc, runs.or(Err(NoMemory))?)
+}
+
+/// A WAVE file with room for `ds64` behind its type and 4,294,967,200 bytes of sound, which its sizes can't tell with a title more.
+pub fn roomy_wave(alloc: Global) -> Result<SparseDepot, NoMemory>
+    ensures fresh { IfOk result IsFresh }
+    ensures only { IfOk result (λ d. Only (read_as (sparse_disk d).slots) (sparse_disk d)) }
+{
+    let head = Run::Bytes(ROOMY_HEAD.to_vec(alloc)?);
+    let runs = vec![in alloc; head, Run::Zero(4_294_967_200)];
+    depot_of_runs(alloc, runs.or(Err(NoMemory))?)
+}
+
+/// The same with two bytes of sound less, which its sizes can just tell with a title more.
+pub fn narrow_wave(alloc: Global) -> Result<SparseDepot, NoMemory>
+    ensures fresh { IfOk result IsFresh }
+    ensures only { IfOk result (λ d. Only (read_as (sparse_disk d).slots) (sparse_disk d)) }
+{
+    let head = Run::Bytes(NARROW_HEAD.to_vec(alloc)?);
+    let runs = vec![in alloc; head, Run::Zero(4_294_967_198)];
     depot_of_runs(alloc, runs.or(Err(NoMemory))?)
 }
 

@@ -5,7 +5,10 @@ use crate::files::{
 };
 use crate::rows::{Held, Row, goes};
 use crate::runs::{depot_of, holds, paper, run_on, run_told, words_of};
-use crate::sparse::{HELLO, five_gigabytes, full_wave, has_len, shows};
+use crate::sparse::{
+    FULL_WIDENED, HELLO, HI, ROOMY_WIDENED, WIDE_SOUND, five_gigabytes, full_wave, has_len,
+    narrow_wave, roomy_wave, shows,
+};
 use crate::stops::{NO_EDIT, RECOVER, calls_of, plain, survives, survives_twice};
 use me_disk::FailAt;
 use metaedit_top::{Outcome, Summary, UsageFault, Why};
@@ -460,16 +463,51 @@ fn a_sound_of_five_gigabytes_is_not_read(rt: HostRuntime) -> Result<(), Fail> {
     Ok(())
 }
 
+// Without room behind its type a full file gets a new `ds64` there.
 #[test]
-fn a_wave_file_does_not_pass_four_gigabytes(rt: HostRuntime) -> Result<(), Fail> {
+fn a_wave_file_that_passes_four_gigabytes_becomes_rf64(rt: HostRuntime) -> Result<(), Fail> {
     let mut depot = full_wave(rt.alloc())?;
     let ran = run_told(rt.alloc(), TITLE, &mut depot)?;
-    let outcome = Outcome::TooLarge {
-        size: 4_294_967_304,
-        limit: 4_294_967_295,
+    let summary = Summary {
+        payload: 4_294_967_244,
+        ..REWRITTEN
     };
-    assert!(rt; ran.outcome == outcome);
-    assert!(rt; depot.written() == 0);
-    assert!(rt; has_len(&mut depot, 4_294_967_288));
+    assert!(rt; ran.outcome == Outcome::Done(summary));
+    assert!(rt; ran.out.written() == b"done changed rewrite essence 4294967244\n".as_slice());
+    assert!(rt; has_len(&mut depot, 4_294_967_348));
+    assert!(rt; shows(&mut depot, 0, FULL_WIDENED));
+    assert!(rt; shows(&mut depot, 48, WIDE_SOUND));
+    assert!(rt; shows(&mut depot, 4_294_967_324, HI));
+    Ok(())
+}
+
+#[test]
+fn a_reserved_junk_becomes_ds64(rt: HostRuntime) -> Result<(), Fail> {
+    let mut depot = roomy_wave(rt.alloc())?;
+    let ran = run_told(rt.alloc(), TITLE, &mut depot)?;
+    let summary = Summary {
+        payload: 4_294_967_200,
+        ..REWRITTEN
+    };
+    assert!(rt; ran.outcome == Outcome::Done(summary));
+    assert!(rt; has_len(&mut depot, 4_294_967_304));
+    assert!(rt; shows(&mut depot, 0, ROOMY_WIDENED));
+    assert!(rt; shows(&mut depot, 48, WIDE_SOUND));
+    assert!(rt; shows(&mut depot, 4_294_967_280, HI));
+    Ok(())
+}
+
+#[test]
+fn a_size_that_32_bits_just_tell_stays_there(rt: HostRuntime) -> Result<(), Fail> {
+    let mut depot = narrow_wave(rt.alloc())?;
+    let ran = run_told(rt.alloc(), TITLE, &mut depot)?;
+    let summary = Summary {
+        payload: 4_294_967_198,
+        ..IN_PLACE
+    };
+    assert!(rt; ran.outcome == Outcome::Done(summary));
+    assert!(rt; has_len(&mut depot, 4_294_967_302));
+    assert!(rt; shows(&mut depot, 0, b"RIFF\xfe\xff\xff\xffWAVEJUNK"));
+    assert!(rt; shows(&mut depot, 4_294_967_278, HI));
     Ok(())
 }

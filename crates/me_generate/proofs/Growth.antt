@@ -1,13 +1,13 @@
 -- Calls that add to `Work`, one after the other.
-use Rattle.std.proofs.Common.{◌≡◌, ◌⊎◌, inl, inr, ℕ, ◌+◌, ◌≤◌, ◌<◌, ◌^◌, List, [], ◌∷◌, ◌++◌, length, refl, sym, ap, ◌∙◌, arith, append_assoc, append-nil, length-append, subst, Option, Some, None}
-use Rattle.std.specs.Prelude.{IsSome, IsTrue, OnErr, OnOk, Result, Ok, Err, is_some}
-use Rattle.me_disk.specs.Calls.Call.{AppendWork, BeginWork, InstallMain, SyncWork}
+use Rattle.std.proofs.Common.{◌≡◌, ℕ, ◌+◌, ◌≤◌, ◌<◌, ◌^◌, List, [], ◌++◌, length, sym, ap, ◌∙◌, arith, append_assoc, append-nil, length-append, subst, Option, Some, None}
+use Rattle.std.specs.Prelude.{IsSome, IsTrue, Result, Ok, Err, is_some}
+use Rattle.me_disk.specs.Calls.Call.{AppendWork, BeginWork}
 use Rattle.me_disk.specs.Causes.{Rose}
-use Rattle.me_disk.specs.Disk.{Disk, Image, Leaves, Only, Slots, bytes_of, plain, read_as}
-use Rattle.me_disk.specs.Steps.{Does, KeepsImages, OnlyWork}
+use Rattle.me_disk.specs.Disk.{Disk, Leaves, Only, bytes_of, plain}
+use Rattle.me_disk.specs.Steps.{Does, OnlyWork}
 use Rattle.me_disk.specs.declared.depot.DepotFault.{DepotFault}
-use Rattle.me_disk.specs.declared.depot.WorkState.TheVariants.{Closed, Open, Ready}
-use Rattle.me_disk.proofs.Runs.{Leaves-does, Leaves-quiet, Leaves-trans, Only-keeps, OnlyWork-refl, OnlyWork-trans, rose_later, rose_sooner, same_image}
+use Rattle.me_disk.specs.declared.depot.WorkState.TheVariants.{Open}
+use Rattle.me_disk.proofs.Runs.{Leaves-quiet, Leaves-trans, Only-keeps, OnlyWork-refl, OnlyWork-trans, rose_sooner}
 use Rattle.me_generate.specs.Makes.{Adds, Grows, Halts, Installs, IsNoneOr, Makes, Rests, Stands}
 use Rattle.me_generate.specs.declared.making.MakeFault.{MakeFault}
 use Rattle.me_generate.specs.declared.making.MakeFault.TheVariants as fault

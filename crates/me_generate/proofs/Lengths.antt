@@ -1,13 +1,13 @@
 -- How long the files are.
-use Rattle.std.proofs.Common.{◌≡◌, ℕ, zero, suc, ◌+◌, ◌-◌, ◌*◌, ◌<◌, ◌≤◌, ◌^◌, List, [], ◌∷◌, ◌++◌, length, sym, ap, ◌∙◌, refl, arith, min, length-append, replicate, take, length-take, inl, inr}
+use Rattle.std.proofs.Common.{◌≡◌, ℕ, zero, suc, ◌+◌, ◌-◌, ◌*◌, ◌<◌, ◌≤◌, ◌^◌, List, ◌++◌, length, sym, ap, ◌∙◌, refl, arith, min, length-append, take, length-take, inl, inr}
 use Rattle.std.specs.Prelude.{◌⊎◌, codes, decimal}
 use Rattle.std.proofs.lemmas.List.{length-replicate}
-use Rattle.me_bytes.specs.Bytes.{be_bytes, le_bytes}
+use Rattle.me_bytes.specs.Bytes.{le_bytes}
 use Rattle.me_generate.specs.Avi as avi
-use Rattle.me_generate.specs.Bytes.{atom, chunk, numbers, padded, zeros}
+use Rattle.me_generate.specs.Bytes.{atom, chunk, padded, zeros}
 use Rattle.me_generate.specs.Movie as mov
-use Rattle.me_generate.specs.Rows.{HasRow, HasRows, row_bytes, rows}
-use Rattle.me_generate.specs.Stated.{IsMade, avi_shape, limit_of, movie_shape, shape_of, stated, wave_shape, whole}
+use Rattle.me_generate.specs.Rows.{HasRows, row_bytes, rows}
+use Rattle.me_generate.specs.Stated.{IsMade, avi_shape, movie_shape, shape_of, stated, wave_shape, whole}
 use Rattle.me_generate.specs.Wave as wave
 use Rattle.me_generate.specs.declared.rows.Row.{Row}
 use Rattle.me_generate.specs.declared.rows.Row.TheVariants.{Second, Picture, Entry, Place, Sample}

@@ -1,5 +1,5 @@
 -- What a depot is left with on the way to a new file.
-use Rattle.std.specs.Prelude.{◌≡◌, ◌⊎◌, ℕ, ◌+◌, ◌≤◌, List, ◌++◌, length, IsTrue, IsSome, Some, None, Result, Ok, Err, IfOk, OnOk, OnErr}
+use Rattle.std.specs.Prelude.{◌≡◌, ◌⊎◌, ℕ, ◌+◌, ◌≤◌, List, ◌++◌, length, IsTrue, IsSome, Some, None, Result, Err, IfOk, OnOk, OnErr}
 use Rattle.me_disk.specs.Causes.{Rose}
 use Rattle.me_disk.specs.Disk.{Disk, Image, Leaves, Only, bytes_of, plain}
 use Rattle.me_disk.specs.Steps.{OnlyWork}

@@ -1,9 +1,9 @@
 pub mod ItemWords
-pub mod FileReads
+pub mod Rules
 pub mod Acted
 pub mod Ran
 pub mod Tops
 pub mod Changes
 pub mod Sets
-pub mod FieldOrder
-pub mod Tells
+pub mod Looks
+pub mod FileWord

@@ -2,12 +2,13 @@
 use Rattle.std.proofs.Common.{◌≡◌, ℕ, ◌+◌, List, Bool, true, Option, Some, None, Result, Ok, Err, refl, sym, ap, ◌∙◌, subst, arith, inl, ⊎_elim}
 use Rattle.std.specs.Prelude.{IsTrue, IsSome, is_some, ◌⊎◌, IfOk, IfErr}
 use Rattle.me_bytes.specs.Bytes.{IsBytes}
+use Rattle.me_disk.specs.Causes.{Rose}
 use Rattle.me_disk.specs.Disk.{Image, Disk, IsLawful, Only, Leaves, read_as, bytes_of}
 use Rattle.me_disk.specs.Holds.{Holds}
 use Rattle.me_disk.specs.Steps.{ReadsOnly}
 use Rattle.me_disk.proofs.Runs.{rose_sooner, Leaves-trans, Leaves-reads, same_image}
 use Rattle.edit_journal.specs.Settled.{Settles, IsDamaged, StandsAlone}
-use Rattle.recovery.specs.Recovered.{Recovers, RecoverWrites, OnRedone, IsRedone, bytes_to_redo}
+use Rattle.recovery.specs.Recovered.{Recovers, RecoverWrites, OnRecoverDamage, OnRedone, IsBroken, IsRedone, IsRefusal, bytes_to_redo}
 use Rattle.recovery.specs.Redo.{SettlesAlike}
 use Rattle.recovery.specs.declared.whole.RecoverFault.{RecoverFault}
 use Rattle.recovery.specs.declared.whole.RecoverFault.TheVariants as fault
@@ -18,8 +19,9 @@ use Rattle.metaedit_top.specs.declared.outcome.Finished.{Finished}
 use Rattle.metaedit_top.specs.declared.outcome.Stop.{Stop}
 use Rattle.metaedit_top.specs.declared.outcome.Stop.TheVariants as stop
 use Rattle.metaedit_top.specs.declared.words.Request.{Request}
-use Rattle.metaedit_top.specs.Run.{AreBytes, HasRun, HasTold, HasSettled, IsOneStop, LeavesAt, MayLeave, MayStand, OnFile, StandsNew, Stops, report, was_redone}
-use Rattle.metaedit_top.specs.Stage.{ActLeaves, ActStops, HasActed, OnHeld, IsSettled}
+use Rattle.metaedit_top.specs.Run.{AreBytes, HasRun, HasTold, HasSettled, IsOneStop, LeavesAt, MayLeave, MayStand, OnFile, StandsNew, Stops}
+use Rattle.metaedit_top.specs.Stage.{ActLeaves, ActStops, Acts, HasActed, OnHeld, IsSettled, stop_of_recovery}
+use Rattle.metaedit_top.specs.Told.{Fixes, was_redone}
 use Rattle.metaedit_top.proofs.Acted.{alone_only, alone_on}
 
 -- a journal stood there where one was redone
@@ -55,30 +57,30 @@ module _ (q : Request) (a b c : Disk) (rec : Recovers a b) (crash : Leaves (Sett
   holds : IsTrue a.tells → Holds b (bytes_of b.slots.main)
   holds tells = record { tells = tells_on tells; bytes = refl }
 
-  pub ends : (redone : Bool) (f : Finished) → (IsTrue a.tells → redone ≡ is_some a.slots.journal) → OnHeld b (λ o. IsBytes o → HasActed q o redone b c f)
-      → OnFile a (λ o. IsBytes o → HasRun q o a c × HasTold q o a f)
+  ends_so : (redone : Bool) (f : Finished) → (IsTrue a.tells → redone ≡ is_some a.slots.journal) → OnHeld b (λ o. IsBytes o → HasActed q o redone b c f)
+      → OnFile a (λ o. IsBytes o → HasRun q o (bytes_to_redo (read_as a.slots)) a c × HasTold q o (is_some a.slots.journal) f)
   unfolding holds
-  ends redone f was acts = λ tells. (
+  ends_so redone f was acts = λ tells. (
     bytes_of b.slots.main,
     rec.settles tells,
     λ bytes.
         let o = bytes_of b.slots.main in
         let x = acts o (holds tells) bytes in (
           record {
-            accepts = x.accepts;
-            alone = x.alone;
-            no_work = x.no_work;
-            edited = x.edited;
-            written = let w = x.written in let v = wrote tells in omega arith;
+            accepts = x.run.accepts;
+            alone = x.run.alone;
+            no_work = x.run.no_work;
+            edited = x.run.edited;
+            written = let w = x.run.written in let v = wrote tells in omega (arith, w, v);
           },
-          record { summary_is = x.summary_is; text_is = x.text_is ∙ ap (report q o) (was tells) },
+          subst (λ (t : Bool). HasTold q o t f) (was tells) x.told,
         ),
   )
 
   on_file : (P : List ℕ → Type 0) → OnHeld b P → OnFile a P
   on_file P held = λ tells. (bytes_of b.slots.main, rec.settles tells, held (bytes_of b.slots.main) (holds tells))
 
-  pub stops : (s : Stop) → ActStops q b c s → Stops q a c s
+  stops : (s : Stop) → ActStops q b c s → Stops q a c s
   unfolding on_file
   stops stop.Depot h = rose_sooner a.faults b.faults c.faults crash.faults h
   stops stop.NoFile h = absurd h
@@ -92,6 +94,7 @@ module _ (q : Request) (a b c : Disk) (rec : Recovers a b) (crash : Leaves (Sett
   has_settled reads = record {
     alone = subst (λ (o : List ℕ). StandsAlone o c) (ap bytes_of (sym reads.main)) (alone_on (bytes_of b.slots.main) b c reads rec.alone);
     settles = λ tells. subst (λ (m : Option (List ℕ)). Settles (Some (bytes_of m)) (read_as a.slots)) (sym reads.main) (rec.settles tells);
+    no_work = λ tells. reads.work ∙ rec.work tells;
     written = λ tells. reads.written ∙ wrote tells;
     crash = Leaves-trans (SettlesAlike (read_as a.slots)) a b c crash (Leaves-reads (SettlesAlike (read_as a.slots)) b c reads);
   }
@@ -105,24 +108,28 @@ module _ (q : Request) (a b c : Disk) (rec : Recovers a b) (crash : Leaves (Sett
       some_bytes : {x y : List ℕ} → Some x ≡ Some y → x ≡ y
       some_bytes e = ap bytes_of e
 
-  pub leaves : (s : Stop) → ActLeaves q b c s → LeavesAt q a c s
+  leaves : (s : Stop) → ActStops q b c s → ActLeaves q b c s → LeavesAt q a c s
   unfolding has_settled once
-  leaves stop.Depot h = λ o tells settles bytes. let most = h o (once o tells settles) bytes in let w = wrote tells in omega arith
-  leaves stop.NoFile h = absurd h
-  leaves (stop.Damaged at) h = absurd h
-  leaves (stop.NotSupported w) h = has_settled h
-  leaves (stop.RuleBroken w) h = has_settled h
-  leaves (stop.TooLarge size limit) h = has_settled h
-  leaves stop.Memory h = has_settled h
+  leaves stop.Depot why h = λ o tells settles bytes. let most = h o (once o tells settles) bytes in let w = wrote tells in omega (arith, most, w)
+  leaves stop.NoFile why h = absurd why
+  leaves (stop.Damaged at) why h = absurd why
+  leaves (stop.NotSupported w) why h = has_settled h
+  leaves (stop.RuleBroken w) why h = has_settled h
+  leaves (stop.TooLarge size limit) why h = has_settled h
+  leaves stop.Memory why h = has_settled h
 
-  pub one_stop : IsLawful c → (s : Stop) → ActLeaves q b c s → IsOneStop s c
+  one_read_alone : IsLawful c → ReadsOnly b c → Only (read_as c.slots) c
+  one_read_alone lawful h = alone_only (bytes_of b.slots.main) c lawful (alone_on (bytes_of b.slots.main) b c h rec.alone)
+
+  one_stop : IsLawful c → (s : Stop) → ActLeaves q b c s → IsOneStop s c
+  unfolding one_read_alone
   one_stop lawful stop.Depot h = tt
-  one_stop lawful stop.NoFile h = absurd h
-  one_stop lawful (stop.Damaged at) h = absurd h
-  one_stop lawful (stop.NotSupported w) h = alone_only (bytes_of b.slots.main) c lawful (alone_on (bytes_of b.slots.main) b c h rec.alone)
-  one_stop lawful (stop.RuleBroken w) h = alone_only (bytes_of b.slots.main) c lawful (alone_on (bytes_of b.slots.main) b c h rec.alone)
-  one_stop lawful (stop.TooLarge size limit) h = alone_only (bytes_of b.slots.main) c lawful (alone_on (bytes_of b.slots.main) b c h rec.alone)
-  one_stop lawful stop.Memory h = alone_only (bytes_of b.slots.main) c lawful (alone_on (bytes_of b.slots.main) b c h rec.alone)
+  one_stop lawful stop.NoFile h = one_read_alone lawful h
+  one_stop lawful (stop.Damaged at) h = one_read_alone lawful h
+  one_stop lawful (stop.NotSupported w) h = one_read_alone lawful h
+  one_stop lawful (stop.RuleBroken w) h = one_read_alone lawful h
+  one_stop lawful (stop.TooLarge size limit) h = one_read_alone lawful h
+  one_stop lawful stop.Memory h = one_read_alone lawful h
 
   may_file : (i : Image) → MayLeave q b i → IsTrue a.tells → (f : Option (List ℕ)) → Settles f (read_as a.slots) → AreBytes f → Settles f i ⊎ StandsNew q f i
   unfolding once
@@ -136,11 +143,32 @@ module _ (q : Request) (a b c : Disk) (rec : Recovers a b) (crash : Leaves (Sett
   unfolding may_file
   may_stand since act i h = ⊎_elim (λ before. alike_may q a i (since i before)) (λ may. may_file i may) (act.each a.clock i crash.clock h)
 
--- ---- by cases on the answer
+  -- ---- by cases on the answer
 
-pub at_err : (P Q : Stop → Type 0) → ((s : Stop) → P s → Q s) → (r : Result Finished Stop) → IfErr r P → IfErr r Q
-at_err P Q on (Ok f) h = tt
-at_err P Q on (Err s) h = on s h
+  pub ran_ends : (redone : Bool) → (IsTrue a.tells → redone ≡ is_some a.slots.journal) → (r : Result Finished Stop) → Acts q redone b c r
+      → IfOk r (λ f. OnFile a (λ o. IsBytes o → HasRun q o (bytes_to_redo (read_as a.slots)) a c × HasTold q o (is_some a.slots.journal) f))
+  unfolding ends_so
+  ran_ends redone was (Ok f) h = ends_so redone f was h.acts
+  ran_ends redone was (Err s) h = tt
+
+  pub ran_fixes : (redone : Bool) (r : Result Finished Stop) → Acts q redone b c r → IfOk r (λ f. Fixes q.command f.summary)
+  ran_fixes redone (Ok f) h = h.fixes
+  ran_fixes redone (Err s) h = tt
+
+  pub ran_stops : (redone : Bool) (r : Result Finished Stop) → Acts q redone b c r → IfErr r (Stops q a c)
+  unfolding stops
+  ran_stops redone (Ok f) h = tt
+  ran_stops redone (Err s) h = stops s h.stops
+
+  pub ran_leaves : (redone : Bool) (r : Result Finished Stop) → Acts q redone b c r → IfErr r (LeavesAt q a c)
+  unfolding leaves
+  ran_leaves redone (Ok f) h = tt
+  ran_leaves redone (Err s) h = leaves s h.stops h.leaves
+
+  pub ran_one : IsLawful c → (redone : Bool) (r : Result Finished Stop) → Acts q redone b c r → IfErr r (λ s. IsOneStop s c)
+  unfolding one_stop
+  ran_one lawful redone (Ok f) h = tt
+  ran_one lawful redone (Err s) h = one_stop lawful s h.leaves
 
 pub wrote_exact : (a b : Disk) (r : Recovered) → (IsTrue a.tells → RecoverWrites (bytes_to_redo (read_as a.slots)) a b (Ok r)) → IsTrue a.tells → b.written ≡ a.written + bytes_to_redo (read_as a.slots)
 wrote_exact a b r writes tells = (writes tells).exact no_fault
@@ -148,8 +176,36 @@ wrote_exact a b r writes tells = (writes tells).exact no_fault
     no_fault : ◌≡◌ {A = Result Recovered RecoverFault} (Ok r) (Err fault.Depot) → ⊥
     no_fault e = absurd cc
 
-pub at_ok : (q : Request) (a b c : Disk) → Recovers a b → Leaves (SettlesAlike (read_as a.slots)) a b → (IsTrue a.tells → b.written ≡ a.written + bytes_to_redo (read_as a.slots))
-    → (redone : Bool) → (IsTrue a.tells → redone ≡ is_some a.slots.journal) → (r : Result Finished Stop) → OnHeld b (λ o. IsBytes o → IfOk r (HasActed q o redone b c))
-    → IfOk r (λ f. OnFile a (λ o. IsBytes o → HasRun q o a c × HasTold q o a f))
-at_ok q a b c rec crash wrote redone was (Ok f) acts = ends q a b c rec crash wrote redone f was acts
-at_ok q a b c rec crash wrote redone was (Err s) acts = tt
+-- ---- a file that isn't settled
+
+module _ (q : Request) (a b : Disk) where
+  refused_stops : (f : RecoverFault) → (◌≡◌ {A = Result Recovered RecoverFault} (Err f) (Err fault.NoFile) → IsTrue a.tells → a.slots.main ≡ None)
+      → OnRecoverDamage f (λ (at : ℕ). IsTrue a.tells → IsBroken a.slots at) → (◌≡◌ {A = Result Recovered RecoverFault} (Err f) (Err fault.Depot) → Rose a.faults b.faults)
+      → Stops q a b (stop_of_recovery f)
+  refused_stops fault.NoFile none damaged cause = none refl
+  refused_stops (fault.Damaged at) none damaged cause = damaged
+  refused_stops fault.Depot none damaged cause = cause refl
+
+  refused_leaves : (f : RecoverFault) → (IsRefusal f → ReadsOnly a b) → (IsTrue a.tells → RecoverWrites (bytes_to_redo (read_as a.slots)) a b (Err f)) → LeavesAt q a b (stop_of_recovery f)
+  refused_leaves fault.NoFile refusal writes = refusal tt
+  refused_leaves (fault.Damaged at) refusal writes = refusal tt
+  refused_leaves fault.Depot refusal writes = λ o tells settles bytes. let most = (writes tells).most in omega (arith, most)
+
+  refused_one : (f : RecoverFault) → Only (read_as a.slots) a → (IsRefusal f → ReadsOnly a b) → IsOneStop (stop_of_recovery f) b
+  refused_one fault.NoFile one refusal = one_read a b one (refusal tt)
+  refused_one (fault.Damaged at) one refusal = one_read a b one (refusal tt)
+  refused_one fault.Depot one refusal = tt
+
+  pub stop_stops : (f : RecoverFault) (s : Stop) → s ≡ stop_of_recovery f → (◌≡◌ {A = Result Recovered RecoverFault} (Err f) (Err fault.NoFile) → IsTrue a.tells → a.slots.main ≡ None)
+      → OnRecoverDamage f (λ (at : ℕ). IsTrue a.tells → IsBroken a.slots at) → (◌≡◌ {A = Result Recovered RecoverFault} (Err f) (Err fault.Depot) → Rose a.faults b.faults)
+      → Stops q a b s
+  unfolding refused_stops
+  stop_stops f s is none damaged cause = subst (Stops q a b) (sym is) (refused_stops f none damaged cause)
+
+  pub stop_leaves : (f : RecoverFault) (s : Stop) → s ≡ stop_of_recovery f → (IsRefusal f → ReadsOnly a b) → (IsTrue a.tells → RecoverWrites (bytes_to_redo (read_as a.slots)) a b (Err f)) → LeavesAt q a b s
+  unfolding refused_leaves
+  stop_leaves f s is refusal writes = subst (LeavesAt q a b) (sym is) (refused_leaves f refusal writes)
+
+  pub stop_one : (f : RecoverFault) (s : Stop) → s ≡ stop_of_recovery f → Only (read_as a.slots) a → (IsRefusal f → ReadsOnly a b) → IsOneStop s b
+  unfolding refused_one
+  stop_one f s is one refusal = subst (λ (t : Stop). IsOneStop t b) (sym is) (refused_one f one refusal)

@@ -1,8 +1,8 @@
 pub mod Words
 pub mod Asked
+pub mod Told
 pub mod Run
 pub mod Stage
 pub mod Text
 pub mod Changed
-pub mod Set
-pub mod Tell
+pub mod Started

@@ -1,5 +1,6 @@
 -- How a run ends: what it leaves of the file and of what a crash may leave, what it tells, and why it stops.
-use Rattle.std.specs.Prelude.{◌≡◌, ◌⊎◌, ℕ, ◌+◌, ◌≤◌, Bool, true, false, IsTrue, is_some, List, [], ◌++◌, length, codes, Option, Some, None, Ok, ⊤}
+use Rattle.std.specs.Prelude.{◌≡◌, ◌⊎◌, ℕ, ◌+◌, ◌≤◌, Bool, true, false, IsTrue, is_some, List, length, take, Option, Some, None, Ok, ⊤}
+use Rattle.std.specs.Io.KnownBytes.{Appends}
 use Rattle.me_bytes.specs.Bytes.{IsBytes}
 use Rattle.me_disk.specs.Causes.{Rose}
 use Rattle.me_disk.specs.Disk.{Disk, Image, Leaves, Only, read_as, bytes_of}
@@ -8,86 +9,18 @@ use Rattle.me_disk.specs.Holds.{Holds}
 use Rattle.edit_journal.specs.Settled.{Settles, StandsAlone}
 use Rattle.recovery.specs.Recovered.{IsBroken, bytes_to_redo}
 use Rattle.recovery.specs.Redo.{SettlesAlike}
-use Rattle.recovery.specs.declared.whole.Recovered.{Recovered}
-use Rattle.recovery.specs.declared.whole.Recovered.TheVariants.{Nothing, Redone}
-use Rattle.md5.specs.Md5.{md5}
-use Rattle.field_model.specs.Broken.{broken, findings}
 use Rattle.part_tree.specs.declared.field.Broken.{Broken}
-use Rattle.part_tree.specs.declared.field.RuleSet.{RuleSet}
 use Rattle.part_tree.specs.Large.{Size}
-use Rattle.wave_model.specs.Fields.{fields}
-use Rattle.wave_model.specs.Large.{too_large}
-use Rattle.wave_model.specs.Wave.{kind_of}
+use Rattle.me_report.specs.declared.line.Summary.{Summary}
 use Rattle.metaedit_top.specs.declared.outcome.Outcome.{Outcome}
 use Rattle.metaedit_top.specs.declared.outcome.Outcome.TheVariants as outcome
-use Rattle.me_report.specs.declared.line.Summary.{Summary}
-use Rattle.me_report.specs.Checksums.{checksum_text, finding_count}
-use Rattle.me_report.specs.Done.{done_line}
-use Rattle.me_report.specs.Findings.{findings_text}
-use Rattle.me_report.specs.Lines.{count_line}
-use Rattle.me_report.specs.Report.{kind_line, field_lines}
-use Rattle.part_tree.specs.Names.{field_names}
-use Rattle.std.specs.List.{flat_map}
 use Rattle.metaedit_top.specs.declared.outcome.Stop.{Stop}
 use Rattle.metaedit_top.specs.declared.outcome.Stop.TheVariants as stop
-use Rattle.metaedit_top.specs.declared.words.Command.{Command}
-use Rattle.metaedit_top.specs.declared.words.Command.TheVariants as command
 use Rattle.metaedit_top.specs.declared.words.Request.{Request}
 use Rattle.metaedit_top.specs.declared.outcome.Finished.{Finished}
 use Rattle.metaedit_top.specs.Words.{request}
-use Rattle.metaedit_top.specs.Asked.{payload, sound, changes, fits, reads_file, edits_file, Accepts, new_of, IsEdited, run_bytes, why_in}
-
--- ---- what is told of a run
-
--- the summary of a run that edits nothing and reads no file
-abbrev pub no_edit : Summary
-no_edit = record { changed = false; in_place = false; payload = 0; findings = 0 }
-
--- the summary of a run that only reads a file whose sound has so many bytes, and that finds so much
-abbrev pub look_summary : ℕ → ℕ → Summary
-look_summary n k = record { changed = false; in_place = false; payload = n; findings = k }
-
--- what is shown of a file: its kind, the length of its sound, and the lines of its fields, in field order
-abbrev pub shown_text : List ℕ → List ℕ
-shown_text o = kind_line (kind_of o) ++ (count_line (codes "essence ") (payload o) ++ flat_map (field_lines (fields o)) field_names)
-
--- what the fields of a file break as they stand
-abbrev pub findings_in : RuleSet → List ℕ → List Broken
-findings_in rules o = findings (kind_of o) 0 (fields o) [] rules
-
--- whether a journal was redone
-abbrev pub was_redone : Recovered → Bool
-was_redone Nothing = false
-was_redone (Redone len) = true
-
--- the summary of a command on a file
-abbrev pub summary_by : Command → Request → List ℕ → Summary
-summary_by command.Set q o = record { changed = changes o q.edit; in_place = fits o q.edit; payload = payload o; findings = 0 }
-summary_by command.Recover q o = no_edit
-summary_by command.Show q o = look_summary (payload o) 0
-summary_by command.Validate q o = look_summary (payload o) (length (findings_in q.rules o))
-summary_by command.Md5 q o = look_summary (payload o) (finding_count (fields o) (Some (md5 (sound o))))
-
--- the summary of a run
-abbrev pub summary : Request → List ℕ → Summary
-summary q o = summary_by q.command q o
-
--- the line of a recovery, by whether a journal stood beside the file
-abbrev pub recovered_line : Bool → List ℕ
-recovered_line true = codes "recovered redone\n"
-recovered_line false = codes "recovered nothing\n"
-
--- the report of a run
-abbrev pub report_by : Command → Request → List ℕ → Bool → List ℕ
-report_by command.Set q o stood = done_line (summary q o)
-report_by command.Recover q o stood = recovered_line stood
-report_by command.Show q o stood = shown_text o
-report_by command.Validate q o stood = findings_text (findings_in q.rules o)
-report_by command.Md5 q o stood = checksum_text (fields o) (Some (md5 (sound o)))
-
--- the report of a run on a file, beside which a journal stood or not
-abbrev pub report : Request → List ℕ → Bool → List ℕ
-report q o stood = report_by q.command q o stood
+use Rattle.metaedit_top.specs.Asked.{Accepts, IsEdited, broken_by, edits_file, new_of, reads_file, run_bytes, too_large, why_in}
+use Rattle.metaedit_top.specs.Told.{Fixes, Reports, summary}
 
 -- ---- what a crash may leave
 
@@ -120,32 +53,39 @@ MayLeave q d i = (o : List ℕ) → Holds d o → IsBytes o → IsEither q o i
 
 -- ---- what a run leaves that came to its end
 
--- The new file stands alone, now and after a crash; it is the old one edited; and these bytes were written.
-pub record HasRun (q : Request) (o : List ℕ) (old new : Disk) : Type 0 where
+-- The new file stands alone, now and after a crash; it is the old one edited; and these bytes were written, of which a
+-- recovery before it wrote some.
+pub record HasRun (q : Request) (o : List ℕ) (redone : ℕ) (old new : Disk) : Type 0 where
   pub accepts : Accepts q o
   pub alone : StandsAlone (new_of q o) new
   pub no_work : new.slots.work ≡ None
   pub edited : IsEdited q o
-  pub written : new.written ≡ old.written + (bytes_to_redo (read_as old.slots) + run_bytes q o)
+  pub written : new.written ≡ old.written + (redone + run_bytes q o)
 
--- and what it tells
-pub record HasTold (q : Request) (o : List ℕ) (old : Disk) (f : Finished) : Type 0 where
+-- What it tells; a journal stood beside the file before, or not.
+pub record HasTold (q : Request) (o : List ℕ) (stood : Bool) (f : Finished) : Type 0 where
   pub summary_is : f.summary ≡ summary q o
-  pub text_is : f.text ≡ report q o (is_some old.slots.journal)
+  pub report_is : Reports q o stood f.text
 
 -- ---- why a run stops before its output
 
 -- a size of the new file passes its limit, and nothing else stands against the edit
 pub record IsTooLarge (q : Request) (o : List ℕ) (size : Size) : Type 0 where
   pub supported : why_in o ≡ None
-  pub unbroken : broken (kind_of o) 0 (fields o) q.edit q.rules ≡ None
+  pub unbroken : broken_by q.rules q.edit o ≡ None
   pub large : too_large o q.edit ≡ Some size
 
+-- the file is supported, and this is the first rule that the edit breaks
+pub record IsRefused (q : Request) (o : List ℕ) (b : Broken) : Type 0 where
+  pub supported : why_in o ≡ None
+  pub broken : broken_by q.rules q.edit o ≡ Some b
+
 -- The file that the state at entry stands for stands alone, and a crash at any moment would have left what stands for it. A
--- journal that stood beside it is redone.
+-- journal that stood beside it is redone, and no file that was begun is left.
 pub record HasSettled (old new : Disk) : Type 0 where
   pub alone : StandsAlone (bytes_of new.slots.main) new
   pub settles : IsTrue old.tells → Settles (Some (bytes_of new.slots.main)) (read_as old.slots)
+  pub no_work : IsTrue old.tells → new.slots.work ≡ None
   pub written : IsTrue old.tells → new.written ≡ old.written + bytes_to_redo (read_as old.slots)
   pub crash : Leaves (SettlesAlike (read_as old.slots)) old new
 
@@ -159,20 +99,29 @@ Stops q old new stop.Depot = Rose old.faults new.faults
 Stops q old new stop.NoFile = IsTrue old.tells → old.slots.main ≡ None
 Stops q old new (stop.Damaged at) = IsTrue old.tells → IsBroken old.slots at
 Stops q old new (stop.NotSupported w) = (reads_file q.command ≡ true) × OnFile old (λ o. why_in o ≡ Some w)
-Stops q old new (stop.RuleBroken b) = (edits_file q.command ≡ true) × OnFile old (λ o. (why_in o ≡ None) × (broken (kind_of o) 0 (fields o) q.edit q.rules ≡ Some b))
-Stops q old new (stop.TooLarge size limit) = (edits_file q.command ≡ true) × OnFile old (λ o. IsBytes o → IsTooLarge q o (record { size = size; limit = limit }))
+Stops q old new (stop.RuleBroken b) = (edits_file q.command ≡ true) × OnFile old (λ o. IsRefused q o b)
+Stops q old new (stop.TooLarge size limit) =
+    (edits_file q.command ≡ true) × OnFile old (λ o. IsBytes o → IsTooLarge q o (record { size = size; limit = limit }))
 Stops q old new stop.Memory = ⊤
+
+-- at most the bytes of the run were written
+abbrev pub WroteAtMost : Request → Disk → Disk → Type 0
+WroteAtMost q old new =
+    (o : List ℕ) → IsTrue old.tells → Settles (Some o) (read_as old.slots) → IsBytes o
+    → new.written ≤ old.written + (bytes_to_redo (read_as old.slots) + run_bytes q o)
 
 -- A stop leaves what stood there: at most a journal that stood beside the file is redone. A fault of the device leaves at most
 -- what the run would have written.
 abbrev pub LeavesAt : Request → Disk → Disk → Stop → Type 0
-LeavesAt q old new stop.Depot = (o : List ℕ) → IsTrue old.tells → Settles (Some o) (read_as old.slots) → IsBytes o → new.written ≤ old.written + (bytes_to_redo (read_as old.slots) + run_bytes q o)
+LeavesAt q old new stop.Depot = WroteAtMost q old new
 LeavesAt q old new stop.NoFile = ReadsOnly old new
 LeavesAt q old new (stop.Damaged at) = ReadsOnly old new
 LeavesAt q old new (stop.NotSupported w) = HasSettled old new
 LeavesAt q old new (stop.RuleBroken b) = HasSettled old new
 LeavesAt q old new (stop.TooLarge size limit) = HasSettled old new
 LeavesAt q old new stop.Memory = HasSettled old new
+
+-- ---- what a run answers to words
 
 -- The words ask for something that stops so, and this is left.
 pub record Because (words : List (List ℕ)) (old new : Disk) (s : Stop) : Type 0 where
@@ -181,22 +130,54 @@ pub record Because (words : List (List ℕ)) (old new : Disk) (s : Stop) : Type 
   pub stops : Stops asked old new s
   pub leaves : LeavesAt asked old new s
 
--- The words ask for something that was done with the file, of which and of the request this holds.
+-- What the words ask for was done with the file, of which and of the request this holds.
 pub record DoneWith (words : List (List ℕ)) (old new : Disk) (P : Request → List ℕ → Type 0) : Type 0 where
   pub asked : Request
   pub is : request words ≡ Ok asked
-  pub done : OnFile old (λ o. IsBytes o → HasRun asked o old new × P asked o)
+  pub done : OnFile old (λ o. IsBytes o → HasRun asked o (bytes_to_redo (read_as old.slots)) old new × P asked o)
+
+-- the report of a run is printed behind what was
+abbrev pub Prints : Request → List ℕ → Bool → Option (List ℕ) → Option (List ℕ) → Type 0
+Prints q o stood before after = (text : List ℕ) × Reports q o stood text × Appends before after text
+
+-- the first bytes of the report are printed behind what was
+abbrev pub PrintsSome : Request → List ℕ → Bool → Option (List ℕ) → Option (List ℕ) → Type 0
+PrintsSome q o stood before after = (text : List ℕ) × Reports q o stood text × ((k : ℕ) × Appends before after (take k text))
+
+-- whether a journal stands beside the file
+abbrev pub has_journal : Disk → Bool
+has_journal d = is_some d.slots.journal
+
+-- The run came to its end: this is its summary, and the report is printed.
+abbrev pub Ends : List (List ℕ) → Disk → Disk → Option (List ℕ) → Option (List ℕ) → Summary → Type 0
+Ends words old new before after s =
+    DoneWith words old new (λ q o. (s ≡ summary q o) × Prints q o (has_journal old) before after)
+
+-- The run came to its end, but for its output: the file was edited, or not, and some of the report is printed.
+abbrev pub EndsUnprinted : List (List ℕ) → Disk → Disk → Option (List ℕ) → Option (List ℕ) → Bool → Type 0
+EndsUnprinted words old new before after edited =
+    DoneWith words old new (λ q o. (edited ≡ (summary q o).changed) × PrintsSome q o (has_journal old) before after)
+
+-- what the words alone fix of a summary
+abbrev pub FixesBy : List (List ℕ) → Summary → Type 0
+FixesBy words s = (q : Request) → request words ≡ Ok q → Fixes q.command s
 
 -- what a crash may leave of a run that these words ask for
 abbrev pub MayStandBy : List (List ℕ) → Disk → Image → Type 0
-MayStandBy words d i = IsTrue d.tells → (f : Option (List ℕ)) → Settles f (read_as d.slots) → AreBytes f → Settles f i ⊎ ((q : Request) × (request words ≡ Ok q) × StandsNew q f i)
+MayStandBy words d i =
+    IsTrue d.tells → (f : Option (List ℕ)) → Settles f (read_as d.slots) → AreBytes f
+    → Settles f i ⊎ ((q : Request) × (request words ≡ Ok q) × StandsNew q f i)
+
+-- nothing stands against what the words ask for
+abbrev pub AcceptsWords : List (List ℕ) → Disk → Type 0
+AcceptsWords words d =
+    IsTrue d.tells × ((q : Request) × (request words ≡ Ok q)
+    × ((o : List ℕ) × Settles (Some o) (read_as d.slots) × IsBytes o × Accepts q o))
 
 -- after a device fault the depot has to be opened anew; else what it reads as is again its one image
 abbrev pub IsOneStop : Stop → Disk → Type 0
 IsOneStop stop.Depot new = ⊤
 IsOneStop _ new = Only (read_as new.slots) new
-
--- ---- what a run answers
 
 -- the run came to its end, or there was no memory
 abbrev pub Finishes : Outcome → Type 0

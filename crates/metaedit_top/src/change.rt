@@ -1,24 +1,23 @@
 // The edit of a file that stands alone, where each item has an effect and no rule is broken.
-ghost use Rattle.std.specs.Prelude.{◌≡◌, ◌≤◌, ℕ, List, IsTrue, IfOk, IfErr, OnOk, Ok, Err};
-ghost use Rattle.me_bytes.specs.Bytes.{IsBytes};
-ghost use Rattle.me_disk.specs.Disk.{Only, Leaves, read_as, bytes_of};
-ghost use Rattle.me_disk.specs.Holds.{Holds};
+ghost use Rattle.std.specs.Prelude.{◌≡◌, IsTrue, IfOk};
+ghost use Rattle.me_disk.specs.Disk.{bytes_of};
 ghost use Rattle.me_report.specs.Done.{done_line as line_of};
 ghost use Rattle.edit_journal.specs.Settled.{StandsAlone};
 ghost use Rattle.part_tree.specs.Plans.{Belongs};
 ghost use Rattle.file_swap.specs.Swap.{Runs, fresh};
-ghost use Rattle.edit_planner.specs.Plan.{IsReady, Maps, SoundMap, fields_in, kind_in};
-ghost use Rattle.metaedit_top.specs.Changed.{ChangeLeaves, ChangeStops, IsChanged, MayChange};
+ghost use Rattle.edit_planner.specs.Facts.{IsRead};
+ghost use Rattle.edit_planner.specs.Plan.{IsReady, fields_in, kind_in, streams_in, told_in};
+ghost use Rattle.metaedit_top.specs.Changed.{Changes};
 ghost use Rattle.metaedit_top.specs.Changed as spec;
-ghost use Rattle.metaedit_top.specs.Stage.{IsSettled, OnHeld};
+ghost use Rattle.metaedit_top.specs.Stage.{IsSettled};
 
 use crate::outcome::{Finished, Stop};
 use core_edit::Edit;
-use edit_planner::{FileMap, PlanFault, plan};
+use edit_planner::{FileMap, plan};
 use file_swap::Swap;
 use me_disk::{Depot, DepotFault};
 use me_report::{Summary, done_line};
-use part_tree::{Bytes, NoMemory, Plan};
+use part_tree::{Bytes, NoMemory, Plan, Shows};
 use std::alloc::Global;
 
 // Whether a plan is one in place.
@@ -58,46 +57,27 @@ fn carry_out<D: Depot>(depot: &mut D, swap: Swap) -> Result<(), DepotFault>
     swap.run(depot)
 }
 
-/// Edits a file that stands alone, by its map; its sound has `payload` bytes.
+/// Edits a file that stands alone, by its map.
 pub(crate) fn change<D: Depot>(
     alloc: Global,
     depot: &mut D,
     map: &FileMap,
-    payload: u64,
     edit: &Edit,
 ) -> Result<Finished, Stop>
     requires settled { IsSettled (D.disk depot.old) }
-    requires mapped { (o : List ℕ) → Holds (D.disk depot.old) o → Maps o map.now }
-    requires sound { SoundMap map.now }
-    requires ready { IsReady (kind_in map.now) (fields_in map.now) edit.now }
-    ensures changes { OnHeld (D.disk depot.old) (λ o. IsBytes o → IfOk result (IsChanged o edit.now payload (D.disk depot.old) (D.disk depot.new))) }
-    ensures stops { IfErr result (ChangeStops edit.now (D.disk depot.old) (D.disk depot.new)) }
-    ensures leaves { IfErr result (ChangeLeaves edit.now (D.disk depot.old) (D.disk depot.new)) }
-    ensures crash { Leaves (MayChange edit.now (D.disk depot.old)) (D.disk depot.old) (D.disk depot.new) }
-    ensures again { OnOk result (Only (read_as (D.disk depot.new).slots) (D.disk depot.new)) }
+    requires read { IsRead (D.disk depot.old) map.now }
+    requires ready { IsReady (kind_in map.now) (streams_in map.now) (fields_in map.now) edit.now }
+    ensures { Changes edit.now (told_in map.now).payload (D.disk depot.old) (D.disk depot.new) result }
 {
-    let plan = match plan(alloc, depot, map, edit) {
-        Err(PlanFault::TooLarge { size, limit }) => return Err(Stop::TooLarge { size, limit }),
-        Err(PlanFault::Depot) => return Err(Stop::Depot),
-        Err(PlanFault::Memory) => return Err(Stop::Memory),
-        Ok(plan) => plan,
-    };
+    let plan = plan(alloc, depot, map, edit)?;
     let summary = Summary {
         changed: true,
         in_place: is_in_place(&plan),
-        payload,
+        payload: map.payload(),
         findings: 0,
     };
-    let finished = match tell_edit(alloc, summary) {
-        Err(_) => return Err(Stop::Memory),
-        Ok(finished) => finished,
-    };
-    let swap = match Swap::new(alloc, plan) {
-        Err(_) => return Err(Stop::Memory),
-        Ok(swap) => swap,
-    };
-    match carry_out(depot, swap) {
-        Err(_) => Err(Stop::Depot),
-        Ok(()) => Ok(finished),
-    }
+    let finished = tell_edit(alloc, summary)?;
+    let swap = Swap::new(alloc, plan)?;
+    carry_out(depot, swap)?;
+    Ok(finished)
 }

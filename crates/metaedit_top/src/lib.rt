@@ -1,14 +1,15 @@
-//! The editor of the metadata of WAVE and RF64 files: one call does all that the program does.
+//! The editor of the metadata of files: one call does all that the program does.
 //! It reads the words, settles the file after a crash, reads it, tells of it or edits it in place or by a new file, and prints
 //! one report.
-//! It knows no device.
+//! It knows no device, and no kind of files.
 #![tactic(auto)]
 
 mod change;
-mod file;
 mod outcome;
 mod run;
 mod set;
+mod started;
+mod stops;
 mod tell;
 #[cfg(test)]
 mod tests;
@@ -17,10 +18,10 @@ mod top;
 mod word;
 mod words;
 
-pub use file::read_file;
 pub use me_report::Summary;
 pub use outcome::{Outcome, UsageFault};
 pub use part_tree::Why;
+pub use started::{StartFault, file_of, finish, start_code, words_of};
 pub use text::{code, line_of};
 pub use top::metaedit;
 pub use word::Word;

@@ -1,9 +1,5 @@
 // What a run answers.
-ghost use Rattle.std.specs.Prelude.{◌≡◌};
-ghost use Rattle.metaedit_top.specs.declared.outcome.Stop.TheVariants as stop;
 
-use me_bytes::NoMemory;
-use me_disk::DepotFault;
 use me_report::Summary;
 use part_tree::{Broken, Bytes, Why};
 
@@ -66,20 +62,4 @@ pub(crate) enum Stop {
     RuleBroken(Broken),
     TooLarge { size: u64, limit: u64 },
     Memory,
-}
-
-impl From<DepotFault> for Stop {
-    ghost from_gives = { λ _ e. e ≡ stop.Depot };
-
-    fn from(_: DepotFault) -> Stop {
-        Stop::Depot
-    }
-}
-
-impl From<NoMemory> for Stop {
-    ghost from_gives = { λ _ e. e ≡ stop.Memory };
-
-    fn from(_: NoMemory) -> Stop {
-        Stop::Memory
-    }
 }

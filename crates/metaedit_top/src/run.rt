@@ -4,8 +4,10 @@ ghost use Rattle.me_bytes.specs.Bytes.{IsBytes};
 ghost use Rattle.me_disk.specs.Disk.{Image, Only, Leaves, read_as};
 ghost use Rattle.me_disk.specs.Steps.{ReadsOnly};
 ghost use Rattle.edit_journal.specs.Settled.{IsDamaged};
-ghost use Rattle.metaedit_top.specs.Run.{HasRun, HasTold, IsOneStop, LeavesAt, MayLeave, MayStand, OnFile, Stops, recovered_line, no_edit, was_redone};
-ghost use Rattle.metaedit_top.specs.Stage.{ActLeaves, ActStops, HasActed, IsSettled, OnHeld};
+ghost use Rattle.recovery.specs.Recovered.{bytes_to_redo};
+ghost use Rattle.metaedit_top.specs.Run.{HasRun, HasTold, IsOneStop, LeavesAt, MayStand, OnFile, Stops, has_journal};
+ghost use Rattle.metaedit_top.specs.Stage.{Acts, IsSettled};
+ghost use Rattle.metaedit_top.specs.Told.{Fixes, no_edit, recovered_line, was_redone};
 
 use crate::outcome::{Finished, Stop};
 use crate::set::set;
@@ -14,7 +16,7 @@ use crate::words::{Command, Request};
 use me_disk::Depot;
 use me_report::Summary;
 use part_tree::{Bytes, NoMemory};
-use recovery::{RecoverFault, Recovered, recover};
+use recovery::{Recovered, recover};
 use std::alloc::Global;
 
 // Whether a journal was redone.
@@ -63,18 +65,11 @@ fn act<D: Depot>(
     redone: bool,
 ) -> Result<Finished, Stop>
     requires settled { IsSettled (D.disk depot.old) }
-    ensures acts { OnHeld (D.disk depot.old) (λ o. IsBytes o → IfOk result (HasActed request.now o redone (D.disk depot.old) (D.disk depot.new))) }
-    ensures stops { IfErr result (ActStops request.now (D.disk depot.old) (D.disk depot.new)) }
-    ensures leaves { IfErr result (ActLeaves request.now (D.disk depot.old) (D.disk depot.new)) }
-    ensures crash { Leaves (MayLeave request.now (D.disk depot.old)) (D.disk depot.old) (D.disk depot.new) }
-    ensures again { OnOk result (Only (read_as (D.disk depot.new).slots) (D.disk depot.new)) }
+    ensures { Acts request.now redone (D.disk depot.old) (D.disk depot.new) result }
 {
     match request.command {
         Command::Set => set(alloc, depot, request),
-        Command::Recover => match tell_recovery(alloc, redone) {
-            Err(_) => Err(Stop::Memory),
-            Ok(finished) => Ok(finished),
-        },
+        Command::Recover => Ok(tell_recovery(alloc, redone)?),
         Command::Show => show(alloc, depot, request),
         Command::Validate => validate(alloc, depot, request),
         Command::Md5 => md5(alloc, depot, request),
@@ -88,21 +83,20 @@ pub(crate) fn run<D: Depot>(
     request: &Request,
 ) -> Result<Finished, Stop>
     requires one { Only (read_as (D.disk depot.old).slots) (D.disk depot.old) }
-    ensures ends { IfOk result (λ f. OnFile (D.disk depot.old) (λ o. IsBytes o → HasRun request.now o (D.disk depot.old) (D.disk depot.new) × HasTold request.now o (D.disk depot.old) f)) }
+    ensures ends { IfOk result (λ f. OnFile (D.disk depot.old) (λ o. IsBytes o
+        → HasRun request.now o (bytes_to_redo (read_as (D.disk depot.old).slots)) (D.disk depot.old) (D.disk depot.new)
+        × HasTold request.now o (has_journal (D.disk depot.old)) f)) }
+    ensures fixes { IfOk result (λ f. Fixes request.now.command f.summary) }
     ensures stops { IfErr result (Stops request.now (D.disk depot.old) (D.disk depot.new)) }
     ensures leaves { IfErr result (LeavesAt request.now (D.disk depot.old) (D.disk depot.new)) }
     ensures crash { (i : Image) → (D.disk depot.new).since (D.disk depot.old).clock i → MayStand request.now (D.disk depot.old) i }
-    ensures damaged { IsTrue (D.disk depot.old).tells → IsDamaged (read_as (D.disk depot.old).slots) → ReadsOnly (D.disk depot.old) (D.disk depot.new) }
+    ensures damaged { IsTrue (D.disk depot.old).tells → IsDamaged (read_as (D.disk depot.old).slots)
+        → ReadsOnly (D.disk depot.old) (D.disk depot.new) }
     ensures again_done { OnOk result (Only (read_as (D.disk depot.new).slots) (D.disk depot.new)) }
     ensures again { IfErr result (λ stop. IsOneStop stop (D.disk depot.new)) }
     ensures tells { (D.disk depot.new).tells ≡ (D.disk depot.old).tells }
     ensures later { (D.disk depot.old).faults ≤ (D.disk depot.new).faults }
 {
-    let recovered = match recover(depot) {
-        Err(RecoverFault::NoFile) => return Err(Stop::NoFile),
-        Err(RecoverFault::Damaged { at }) => return Err(Stop::Damaged { at }),
-        Err(RecoverFault::Depot) => return Err(Stop::Depot),
-        Ok(recovered) => recovered,
-    };
+    let recovered = recover(depot)?;
     act(alloc, depot, request, is_redone(recovered))
 }

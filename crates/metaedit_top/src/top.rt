@@ -1,18 +1,14 @@
 // The top call.
-ghost use Rattle.std.specs.Prelude.{◌≡◌, ◌⊎◌, ◌≤◌, List, ℕ, Bool, take, false, Some, Ok, Err, is_some, IsTrue};
-ghost use Rattle.std.specs.Io.KnownBytes.{Appends};
-ghost use Rattle.me_bytes.specs.Bytes.{IsBytes};
+ghost use Rattle.std.specs.Prelude.{◌≡◌, ◌⊎◌, ℕ, Bool, false, Err, IsTrue};
 ghost use Rattle.me_disk.specs.Causes.{Rose};
 ghost use Rattle.me_disk.specs.Disk.{Image, Only, read_as};
 ghost use Rattle.me_disk.specs.Steps.{ReadsOnly};
-ghost use Rattle.edit_journal.specs.Settled.{Settles, IsDamaged};
+ghost use Rattle.edit_journal.specs.Settled.{IsDamaged};
 ghost use Rattle.me_report.specs.declared.line.Summary.{Summary};
-ghost use Rattle.metaedit_top.specs.Asked.{Accepts};
-ghost use Rattle.metaedit_top.specs.Run.{Because, DoneWith, Finishes, HasSettled, IsOneAgain, MayStandBy, printed, report, summary};
+ghost use Rattle.metaedit_top.specs.Run.{AcceptsWords, Because, Ends, EndsUnprinted, Finishes, FixesBy, HasSettled, IsOneAgain, MayStandBy, printed};
 ghost use Rattle.metaedit_top.specs.Words.{request};
 ghost use Rattle.metaedit_top.specs.declared.outcome.Stop.TheVariants as stop;
 ghost use Rattle.metaedit_top.specs.declared.outcome.UsageFault.{UsageFault};
-ghost use Rattle.metaedit_top.specs.declared.words.Request.{Request};
 ghost use Rattle.part_tree.specs.declared.field.Broken.{Broken};
 ghost use Rattle.part_tree.specs.declared.why.Why.{Why};
 
@@ -36,34 +32,47 @@ pub fn metaedit<D: Depot, S: Source, K: Sink>(
     requires one { Only (read_as (D.disk depot.old).slots) (D.disk depot.old) }
 
     // Done: the new file stands alone, it is the old one edited, so many bytes were written, and the report is printed.
-    ensures done { (s : Summary) → result ≡ Outcome.Done s → DoneWith words.now (D.disk depot.old) (D.disk depot.new) (λ q o. (s ≡ summary q o)
-        × Appends (K.contents out.old) (K.contents out.new) (report q o (is_some (D.disk depot.old).slots.journal))) }
+    ensures done { (s : Summary) → result ≡ Outcome.Done s
+        → Ends words.now (D.disk depot.old) (D.disk depot.new) (K.contents out.old) (K.contents out.new) s }
+    // What the command fixes of the summary holds on every depot.
+    ensures fixes { (s : Summary) → result ≡ Outcome.Done s → FixesBy words.now s }
 
     // A crash at any moment since entry leaves what stands for the same as what stood there, or for the new file.
-    ensures any_moment { (i : Image) → (D.disk depot.new).since (D.disk depot.old).clock i → MayStandBy words.now (D.disk depot.old) i }
+    ensures any_moment { (i : Image) → (D.disk depot.new).since (D.disk depot.old).clock i
+        → MayStandBy words.now (D.disk depot.old) i }
     ensures one_again { IsOneAgain result (D.disk depot.new) }
-    ensures damaged { IsTrue (D.disk depot.old).tells → IsDamaged (read_as (D.disk depot.old).slots) → ReadsOnly (D.disk depot.old) (D.disk depot.new) }
+    ensures damaged { IsTrue (D.disk depot.old).tells → IsDamaged (read_as (D.disk depot.old).slots)
+        → ReadsOnly (D.disk depot.old) (D.disk depot.new) }
 
     // Each refusal has its cause, and leaves what stood there.
     ensures usage { (fault : UsageFault) → result ≡ Outcome.Usage fault → request words.now ≡ Err fault }
-    ensures all_usage { (fault : UsageFault) → request words.now ≡ Err fault → (result ≡ Outcome.Usage fault) ⊎ (result ≡ Outcome.Memory) }
+    ensures all_usage { (fault : UsageFault) → request words.now ≡ Err fault
+        → (result ≡ Outcome.Usage fault) ⊎ (result ≡ Outcome.Memory) }
     ensures usage_alone { (fault : UsageFault) → request words.now ≡ Err fault → depot.new ≡ depot.old }
-    ensures no_file { result ≡ Outcome.NoFile → Because words.now (D.disk depot.old) (D.disk depot.new) stop.NoFile }
-    ensures journal { (at : ℕ) → result ≡ Outcome.JournalDamaged at → Because words.now (D.disk depot.old) (D.disk depot.new) (stop.Damaged at) }
-    ensures not_supported { (why : Why) → result ≡ Outcome.NotSupported why → Because words.now (D.disk depot.old) (D.disk depot.new) (stop.NotSupported why) }
-    ensures rule_broken { (broken : Broken) → result ≡ Outcome.RuleBroken broken → Because words.now (D.disk depot.old) (D.disk depot.new) (stop.RuleBroken broken) }
-    ensures too_large { (size limit : ℕ) → result ≡ Outcome.TooLarge size limit → Because words.now (D.disk depot.old) (D.disk depot.new) (stop.TooLarge size limit) }
+    ensures no_file { result ≡ Outcome.NoFile
+        → Because words.now (D.disk depot.old) (D.disk depot.new) stop.NoFile }
+    ensures journal { (at : ℕ) → result ≡ Outcome.JournalDamaged at
+        → Because words.now (D.disk depot.old) (D.disk depot.new) (stop.Damaged at) }
+    ensures not_supported { (why : Why) → result ≡ Outcome.NotSupported why
+        → Because words.now (D.disk depot.old) (D.disk depot.new) (stop.NotSupported why) }
+    ensures rule_broken { (broken : Broken) → result ≡ Outcome.RuleBroken broken
+        → Because words.now (D.disk depot.old) (D.disk depot.new) (stop.RuleBroken broken) }
+    ensures too_large { (size limit : ℕ) → result ≡ Outcome.TooLarge size limit
+        → Because words.now (D.disk depot.old) (D.disk depot.new) (stop.TooLarge size limit) }
 
     // A fault has its cause; a fault of the output leaves the new file.
-    ensures depot_fault { (n : ℕ) → result ≡ Outcome.DepotFault n → (n ≡ (D.disk depot.new).faults) × Because words.now (D.disk depot.old) (D.disk depot.new) stop.Depot }
-    ensures out_fault { (edited : Bool) → result ≡ Outcome.OutFault edited → Rose (K.faults out.old) (K.faults out.new)
-        × DoneWith words.now (D.disk depot.old) (D.disk depot.new) (λ q o. (edited ≡ (summary q o).changed)
-        × ((k : ℕ) × Appends (K.contents out.old) (K.contents out.new) (take k (report q o (is_some (D.disk depot.old).slots.journal))))) }
-    ensures memory { result ≡ Outcome.Memory → (depot.new ≡ depot.old) ⊎ HasSettled (D.disk depot.old) (D.disk depot.new) }
+    ensures depot_fault { (n : ℕ) → result ≡ Outcome.DepotFault n
+        → (n ≡ (D.disk depot.new).faults) × Because words.now (D.disk depot.old) (D.disk depot.new) stop.Depot }
+    ensures out_fault { (edited : Bool) → result ≡ Outcome.OutFault edited
+        → Rose (K.faults out.old) (K.faults out.new)
+        × EndsUnprinted words.now (D.disk depot.old) (D.disk depot.new) (K.contents out.old) (K.contents out.new) edited }
+    ensures memory { result ≡ Outcome.Memory
+        → (depot.new ≡ depot.old) ⊎ HasSettled (D.disk depot.old) (D.disk depot.new) }
 
     // Where nothing stands against it and nothing fails, the run comes to its end.
-    ensures complete { IsTrue (D.disk depot.old).tells → (q : Request) (o : List ℕ) → request words.now ≡ Ok q → Settles (Some o) (read_as (D.disk depot.old).slots) → IsBytes o → Accepts q o
-        → (Rose (D.disk depot.old).faults (D.disk depot.new).faults → ⊥) → (Rose (K.faults out.old) (K.faults out.new) → ⊥) → Finishes result }
+    ensures complete { AcceptsWords words.now (D.disk depot.old)
+        → (Rose (D.disk depot.old).faults (D.disk depot.new).faults → ⊥)
+        → (Rose (K.faults out.old) (K.faults out.new) → ⊥) → Finishes result }
 
     ensures silent { printed result ≡ false → out.new ≡ out.old }
     ensures table { table.new ≡ table.old }

@@ -19,7 +19,7 @@ use Rattle.wave_model.specs.Wave.{is_big, Wave, wave_of, form_size, kind_of}
 use Rattle.wave_model.specs.Fields.{is_bext, is_info, fields}
 use Rattle.wave_model.specs.Edited.{block_size, formats}
 use Rattle.wave_model.specs.New.{children_at}
-use Rattle.wave_model.specs.Kind.{narrow_kind}
+use Rattle.wave_model.specs.Kind.{wave_kind}
 use Rattle.wave_model.specs.Why.{is_data, why}
 use Rattle.rf64_ds64.specs.declared.Ds64.{Ds64}
 use Rattle.rf64_ds64.specs.Ds64.{IsDs64}
@@ -97,7 +97,7 @@ pub record IsMapOf (b : List ℕ) (m : WaveMap) : Type 0 where
 
 -- the map of the file, or the first refusal
 abbrev pub ReadsWave : List ℕ → Result WaveMap ReadFault → Type 0
-ReadsWave b r = ReadsKind narrow_kind IsMapOf b r
+ReadsWave b r = ReadsKind wave_kind IsMapOf b r
 
 -- ---- a map that is sound, whatever the file
 

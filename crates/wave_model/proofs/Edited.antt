@@ -438,7 +438,7 @@ module _ (o : List ℕ) (bytes : IsBytes o) (sup : Supported o) (e : List RawIte
   new_bodies : (p : Chunk → Bool) → Ignores (body_in p) → bodies p (new_children (wave_of o) e) ≡ bodies p (stepped (steps e) (old_live o bytes sup e f small))
   new_bodies p h = seen o bytes sup e f small (body_in p) h
 
-  not_padding : (id : List ℕ) → bytes_eq id (codes "JUNK") ≡ false → Ignores (body_in (has_id id))
+  pub not_padding : (id : List ℕ) → bytes_eq id (codes "JUNK") ≡ false → Ignores (body_in (has_id id))
   not_padding id x = ignores_body (has_id id) (λ c j. other_id id c x j) (λ c. refl)
 
   ignores_held : (name : List ℕ) → Ignores (values_held info info_items name)

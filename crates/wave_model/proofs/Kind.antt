@@ -18,7 +18,7 @@ use Rattle.wave_model.specs.New.{new_children, new_size, new_wave, new_file}
 use Rattle.wave_model.specs.Large.{form_sizes, large_by, too_large}
 use Rattle.wave_model.specs.Room.{has_room, patches_in, patches}
 use Rattle.wave_model.specs.Edited.{parts, pieces_in, kept_in, kept_of, Supported}
-use Rattle.wave_model.specs.Widen.{is_reserved, reserved, widened_wave, widens_by, widens, wave_by, wave_after, file_after, large_after_by, large_after, room_after, placed_by, WidenedJunk, JunkBy, cuts_widened}
+use Rattle.wave_model.specs.Widen.{is_reserved, reserved, widened_wave, widens_by, widens, wave_by, wave_after, file_after, sizes_in, large_after_by, large_after, room_after, placed_by, WidenedJunk, JunkBy, cuts_widened}
 use Rattle.container_model.specs.Splice.{splice, Ascend}
 use Rattle.wave_model.specs.Kind.{wave_kind}
 use Rattle.wave_model.proofs.Items.{items_fine}
@@ -45,20 +45,23 @@ reads_all o n e h name (inr a) = go (is_field_name name) refl
 module _ (o : List ℕ) (e : List EditItem) where
   -- ---- an edit that doesn't widen
 
-  narrow_file : widens o e ≡ false → file_after o e ≡ new_file o e
+  pub narrow_file : widens o e ≡ false → file_after o e ≡ new_file o e
   unfolding file_after new_file
   narrow_file t = ap (λ (u : Bool). spell_wave (wave_by u (wave_of o) (raw_items (fields o) e))) t
 
-  narrow_small : IsBytes o → Supported o → widens o e ≡ false → large_after o e ≡ None → too_large o e ≡ None
-  narrow_small bytes sup t l = go (effective (fields o) e) (ap (λ (u : Bool). large_after_by (effective (fields o) e) (wave_by u (wave_of o) (raw_items (fields o) e))) (sym t) ∙ l)
+  pub narrow_large : IsBytes o → Supported o → widens o e ≡ false → large_after o e ≡ too_large o e
+  narrow_large bytes sup t = ap (λ (u : Bool). large_after_by (effective (fields o) e) (wave_by u (wave_of o) (raw_items (fields o) e))) t ∙ go (effective (fields o) e)
     where
-      go : (is : List EditItem) → large_after_by is (new_wave (wave_of o) (raw_items (fields o) e)) ≡ None → large_by is (wave_of o) (raw_items (fields o) e) ≡ None
-      go [] h = refl
-      go (i ∷ is) h =
+      go : (is : List EditItem) → large_after_by is (new_wave (wave_of o) (raw_items (fields o) e)) ≡ large_by is (wave_of o) (raw_items (fields o) e)
+      go [] = refl
+      go (i ∷ is) =
           let w = wave_of o in
           let r = raw_items (fields o) e in
           let lists = map (λ b. limited (2 ^ 24) (length b)) (bodies is_info (new_children w r)) in
-          ap (λ (k : ℕ). first_above (lists ++ (limited 65536 (parts (new_wave w r)) ∷ (form_sizes w.form w.id k ++ limited (2 ^ 63 - 1) (length (spell_wave (new_wave w r))) ∷ [])))) (sym (length_new o bytes sup r)) ∙ h
+          ap (λ (k : ℕ). first_above (lists ++ (limited 65536 (parts (new_wave w r)) ∷ (form_sizes w.form w.id k ++ limited (2 ^ 63 - 1) (length (spell_wave (new_wave w r))) ∷ [])))) (length_new o bytes sup r)
+
+  narrow_small : IsBytes o → Supported o → widens o e ≡ false → large_after o e ≡ None → too_large o e ≡ None
+  narrow_small bytes sup t l = sym (narrow_large bytes sup t) ∙ l
 
   narrow_after : IsBytes o → Supported o → broken (kind_of o) 0 (fields o) e Base ≡ None → widens o e ≡ false → large_after o e ≡ None → Edited wave_kind o e (file_after o e)
   narrow_after bytes sup b t l =
@@ -78,16 +81,17 @@ module _ (o : List ℕ) (e : List EditItem) where
   abbrev v : Wave
   v = widened_wave (reserved (wave_of o).children) (new_wave (wave_of o) (raw_items (fields o) e))
 
-  wide_file : widens o e ≡ true → file_after o e ≡ spell_wave v
+  pub wide_file : widens o e ≡ true → file_after o e ≡ spell_wave v
   unfolding file_after
   wide_file t = ap (λ (u : Bool). spell_wave (wave_by u (wave_of o) (raw_items (fields o) e))) t
 
   -- what it is an edit of
-  record Widening : Type 0 where
-    narrow : is_big (take 4 o) ≡ false
-    some : effective (fields o) e ≡ [] → ⊥
+  pub record Widening : Type 0 where
+    pub narrow : is_big (take 4 o) ≡ false
+    pub some : effective (fields o) e ≡ [] → ⊥
+    pub large : nat_lt (2 ^ 32 - 1) (new_size (wave_of o) (raw_items (fields o) e)) ≡ true
 
-  widening : widens o e ≡ true → Widening
+  pub widening : widens o e ≡ true → Widening
   widening t = go (effective (fields o) e) refl t
     where
       no : (a : Bool) → not a ≡ true → a ≡ false
@@ -98,10 +102,18 @@ module _ (o : List ℕ) (e : List EditItem) where
       go [] i x = absurd cc
       go (j ∷ is) i x =
           let p = and_parts (not (is_big (take 4 o))) (nat_lt (2 ^ 32 - 1) (new_size (wave_of o) (raw_items (fields o) e))) x in
-          record { narrow = no (is_big (take 4 o)) p.0; some = λ none. some_none j is (sym i ∙ none) }
+          record { narrow = no (is_big (take 4 o)) p.0; some = λ none. some_none j is (sym i ∙ none); large = p.1 }
         where
           some_none : (j : EditItem) (is : List EditItem) → j ∷ is ≡ [] → ⊥
           some_none j is x = absurd cc
+
+  -- what is too large then
+  pub wide_large : widens o e ≡ true → large_after o e ≡ first_above (sizes_in v)
+  wide_large t = ap (λ (u : Bool). large_after_by (effective (fields o) e) (wave_by u (wave_of o) (raw_items (fields o) e))) t ∙ go (effective (fields o) e) refl
+    where
+      go : (is : List EditItem) → effective (fields o) e ≡ is → large_after_by is v ≡ first_above (sizes_in v)
+      go [] i = absurd ((widening t).some i)
+      go (j ∷ is) i = refl
 
   wide_fits : widens o e ≡ true → large_after o e ≡ None → FitsWide v
   wide_fits t l = go (effective (fields o) e) refl (ap (λ (u : Bool). large_after_by (effective (fields o) e) (wave_by u (wave_of o) (raw_items (fields o) e))) (sym t) ∙ l)

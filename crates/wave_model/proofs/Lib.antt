@@ -29,3 +29,5 @@ pub mod Kind
 pub mod Twin
 mod WideRows
 pub mod WideCuts
+pub mod WideField
+pub mod WideTold

@@ -23,7 +23,7 @@ use Rattle.wave_model.specs.New.{ends_file, fill_of, pieces_of, new_children, ne
 use Rattle.wave_model.specs.Edited.{Supported}
 use Rattle.wave_model.specs.Widen.{reserved, widened_data, widened_wave, field_cut, field_cuts, wide_cuts, widened_cuts}
 use Rattle.wave_model.proofs.Again.{spelled}
-use Rattle.wave_model.proofs.Acts.{IsMade, all_made, all_pass}
+use Rattle.wave_model.proofs.Acts.{IsMade, all_made, all_pass, other_id}
 use Rattle.wave_model.proofs.Cells.{was_cells, now_cells}
 use Rattle.wave_model.proofs.Edited.{kind_len}
 use Rattle.wave_model.proofs.Few.{Silent, made_silent}
@@ -343,12 +343,13 @@ module _ (o : List ℕ) (bytes : IsBytes o) (sup : Supported o) (narrow : is_big
     fine : PiecesFine (drop (length js) (pieces_of w e))
     old : flat_map old_bytes (pieces_of w e) ≡ spell_all js ++ flat_map old_bytes (drop (length js) (pieces_of w e))
     new : drop (length js) (new_children w e) ≡ lay (fill_of w) (drop (length js) (pieces_of w e))
+    same : wide_cuts (fill_of w) (12 + length (spell_all js)) (drop (length js) (pieces_of w e)) ≡ wide_cuts (fill_of w) 12 (pieces_of w e)
 
   behind : Behind js
   behind = go (reserved_stays o bytes sup narrow e)
     where
       go : (js ≡ []) ⊎ Stays o bytes sup narrow js (new_children w e) → Behind js
-      go (inl i) = subst Behind (sym i) (record { fine = all_fine; old = refl; new = refl })
+      go (inl i) = subst Behind (sym i) (record { fine = all_fine; old = refl; new = refl; same = refl })
       go (inr s) =
           let j = s.junk in
           let first : FirstKept j ys = first_kept (wave_of o).children refl s.js_is in
@@ -358,8 +359,15 @@ module _ (o : List ℕ) (bytes : IsBytes o) (sup : Supported o) (narrow : is_big
             fine = subst (λ (qs : List Piece). PiecesFine (drop 1 qs)) (sym ps) fine.1;
             old = ap (flat_map old_bytes) ps ∙ ap (λ (x : List ℕ). x ++ flat_map old_bytes (units shut first.0)) (sym (append-nil (spell j))) ∙ ap (λ (qs : List Piece). (spell j ++ []) ++ flat_map old_bytes (drop 1 qs)) (sym ps);
             new = ap (λ (qs : List Piece). drop 1 (lay (fill_of w) qs)) ps ∙ ap (λ (qs : List Piece). lay (fill_of w) (drop 1 qs)) (sym ps);
+            same = ap (λ (qs : List Piece). wide_cuts (fill_of w) (12 + length (spell j ++ [])) (drop 1 qs)) ps
+                ∙ ap (λ (x : List ℕ). wide_cuts (fill_of w) (12 + length x) (units shut first.0)) (append-nil (spell j))
+                ∙ sym (ap (λ (cs : List Cut). cs ++ wide_cuts (fill_of w) (12 + length (spell j)) (units shut first.0)) (no_field j s.is_junk))
+                ∙ sym (ap (wide_cuts (fill_of w) 12) ps);
           })
         where
+          no_field : (j : Chunk) → Rattle.wave_model.specs.Widen.is_reserved j ≡ true → field_cut 12 j ≡ []
+          no_field j r = cond-false (has_id (codes "data") j) _ [] (other_id (codes "data") j refl (and_parts (Rattle.carrier_model.specs.Info.is_padding j) _ r).0)
+
           first_kept : (cs : List Chunk) → w.children ≡ cs → reserved cs ≡ s.junk ∷ [] → FirstKept s.junk ys
           first_kept [] i r = absurd cc
           first_kept (c ∷ cs) i r = by (Rattle.wave_model.specs.Widen.is_reserved c) refl r
@@ -371,6 +379,10 @@ module _ (o : List ℕ) (bytes : IsBytes o) (sup : Supported o) (narrow : is_big
                   let p : Rattle.carrier_model.specs.Info.is_padding c ≡ true = (and_parts (Rattle.carrier_model.specs.Info.is_padding c) _ x).0 in
                   let cells : cells_of w ≡ kept c ∷ map cell_of cs = ap (λ (ds : List Chunk). cells_behind ds w.children) (no_ds64 o bytes sup narrow) ∙ ap (cells_behind []) i in
                   subst (λ (d : Chunk). FirstKept d ys) same (first_carried c (steps e) (all_pass e c p) (cells_of w) (map cell_of cs, cells))
+
+  -- Behind a reserved JUNK the spans are those of all pieces.
+  pub behind_same : wide_cuts (fill_of w) (12 + length (spell_all js)) (drop (length js) (pieces_of w e)) ≡ wide_cuts (fill_of w) 12 (pieces_of w e)
+  behind_same = behind.same
 
   abbrev ps : List Piece
   ps = drop (length (reserved (wave_of o).children)) (pieces_of (wave_of o) e)
@@ -431,6 +443,15 @@ module _ (o : List ℕ) (bytes : IsBytes o) (sup : Supported o) (narrow : is_big
       together : (d c l p t : List ℕ) → (codes "RF64" ++ ones) ++ (codes "WAVE" ++ (d ++ (c ++ (l ++ (p ++ t))))) ≡ ((codes "RF64" ++ ones) ++ ((codes "WAVE" ++ (d ++ (c ++ l))) ++ p)) ++ t
       together d c l p t = simp append_assoc
 
+  -- The spans of the header, of ds64 and of the units ascend with those behind the form.
+  pub heads_ascend : (more : List Cut) → Ascend (8 + length (inner w)) more (length o)
+      → Ascend 0 (record { at = 0; len = 8; bytes = codes "RF64" ++ ones } ∷ (record { at = 12; len = length (spell_all js); bytes = spell_all v.ds64 } ∷ (wide_cuts (fill_of w) at ps ++ more))) (length o)
+  heads_ascend more h = (omega arith, (omega arith, wide_ascends (ends_file w) at ps more (length o) behind.fine (low more h)))
+    where
+      low : (cs : List Cut) → Ascend (8 + length (inner w)) cs (length o) → Ascend (at + length (flat_map old_bytes ps)) cs (length o)
+      low [] g = omega (arith, ends, g)
+      low (c ∷ cs) g = (omega (arith, ends, g.0), g.1)
+
   -- These spans ascend, are disjoint and lie in the old file.
   pub widened_ascend : Ascend 0 (widened_cuts js w e) (length o)
   widened_ascend =
@@ -438,4 +459,4 @@ module _ (o : List ℕ) (bytes : IsBytes o) (sup : Supported o) (narrow : is_big
       let size : length o ≡ 8 + (k + (length w.pad + length w.tail))
       = ap length (spelled_is o bytes sup ∙ spelled w (old_form o bytes sup))
       ∙ omega (arith, kind_len (take 4 o) sup.form_id, field_len w.form k, length-append w.id (field_of w.form k ++ (inner w ++ (w.pad ++ w.tail))), length-append (field_of w.form k) (inner w ++ (w.pad ++ w.tail)), length-append (inner w) (w.pad ++ w.tail), length-append w.pad w.tail) in
-      (omega arith, (omega arith, wide_ascends (ends_file w) at ps last (length o) behind.fine (pad_ascends (at + length (flat_map old_bytes ps)) (8 + k) (length o) w.pad v.pad (omega (arith, ends)) (omega (arith, size)))))
+      heads_ascend last (pad_ascends (8 + k) (8 + k) (length o) w.pad v.pad (omega arith) (omega (arith, size)))

@@ -186,6 +186,11 @@ first_small : (limit : ℕ) (bs : List (List ℕ)) → length bs ≡ 1 → AllBy
 first_small limit [] l h = absurd (omega arith)
 first_small limit (b ∷ bs) l h = h.0
 
+-- how much larger a form is with its ds64, where these are reserved
+abbrev pub more_bytes : List Chunk → ℕ
+more_bytes [] = 36
+more_bytes (j ∷ js) = 0
+
 module _ (o : List ℕ) (bytes : IsBytes o) (sup : Supported o) (narrow : is_big (take 4 o) ≡ false) where
   pub no_ds64 : (wave_of o).ds64 ≡ []
   no_ds64 = subst (λ (t : Bool). HasDs64 t (wave_of o).ds64) narrow (has_ds64 o bytes sup)
@@ -193,7 +198,7 @@ module _ (o : List ℕ) (bytes : IsBytes o) (sup : Supported o) (narrow : is_big
   no_table : sizes_of o ≡ plain
   no_table = cond-false (is_big (take 4 o)) _ plain narrow
 
-  riff_small : length (inner (wave_of o)) < 2 ^ 32
+  pub riff_small : length (inner (wave_of o)) < 2 ^ 32
   riff_small = go (wave_of o).form (form_fine o bytes sup)
     where
       go : (form : Form) → FormFine form (wave_of o).id (length (inner (wave_of o))) → length (inner (wave_of o)) < 2 ^ 32
@@ -268,7 +273,7 @@ module _ (o : List ℕ) (bytes : IsBytes o) (sup : Supported o) (narrow : is_big
   -- ---- all new chunks are of their own size
 
   module _ (e : List RawItem) (f : ItemsFine e) (small : ListsSmall (wave_of o) e) where
-    old_plain : AllByRecursion PlainChunk (wave_of o).children
+    pub old_plain : AllByRecursion PlainChunk (wave_of o).children
     old_plain = all_three (most (sizes_of o)) (wave_of o).children old_read (plain_forms (sizes_of o) no_table (wave_of o).children (old_state o bytes sup e f small)) small_bodies
 
     filled : (end last : Bool) (slot : List ℕ) (n : ℕ) → AllByRecursion PlainChunk (riff_fill end last slot n)
@@ -346,8 +351,8 @@ module _ (o : List ℕ) (bytes : IsBytes o) (sup : Supported o) (narrow : is_big
     data_main : AllByRecursion (λ c. has_id (codes "data") c ≡ true → length c.body ≡ main) kids
     data_main = all_drop (λ c. has_id (codes "data") c ≡ true → length c.body ≡ main) (length js) cs (bodies_each (has_id (codes "data")) (λ b. length b ≡ main) cs (one_len (sounds cs) one_sound))
 
-    -- what its ds64 is
-    record NewDs64 (d : Chunk) (size : ℕ) : Type 0 where
+    -- what its ds64 is, where these are reserved
+    record NewDs64 (ys : List Chunk) (d : Chunk) (size : ℕ) : Type 0 where
       len : ℕ
       low : 28 ≤ len
       high : len ≤ 2 ^ 24
@@ -355,7 +360,7 @@ module _ (o : List ℕ) (bytes : IsBytes o) (sup : Supported o) (narrow : is_big
       id_is : d.id ≡ codes "ds64"
       body_is : d.body ≡ ds64_for len size cs
       pad_is : length d.pad ≡ pad_len riff len
-      took : (length (spell_all (d ∷ [])) + length (spell_all kids) ≡ length (spell_all cs) + 36) ⊎ (length (spell_all (d ∷ [])) + length (spell_all kids) ≡ length (spell_all cs))
+      more : length (spell_all (d ∷ [])) + length (spell_all kids) ≡ length (spell_all cs) + more_bytes ys
 
     spell_ds64 : (d : Chunk) (m : ℕ) → d.form ≡ riff → d.id ≡ codes "ds64" → length d.body ≡ m → length (spell_all (d ∷ [])) ≡ 8 + (m + length d.pad)
     spell_ds64 d m a b c =
@@ -363,15 +368,15 @@ module _ (o : List ℕ) (bytes : IsBytes o) (sup : Supported o) (narrow : is_big
         = ap (λ (g : Form). length (header_bytes g d.id (length d.body))) a ∙ omega (arith, ap length b, length-append d.id (to_le_bytes w32 (length d.body))) in
         omega (arith, head, c, length-append (spell d) [], length-append (header_bytes d.form d.id (length d.body)) (d.body ++ d.pad), length-append d.body d.pad)
 
-    new_is : (size : ℕ) → NewDs64 (new_ds64 js size cs) size
+    new_is : (size : ℕ) → NewDs64 js (new_ds64 js size cs) size
     new_is size = go (reserved_stays e)
       where
-        go : (js ≡ []) ⊎ Stays js cs → NewDs64 (new_ds64 js size cs) size
+        go : (js ≡ []) ⊎ Stays js cs → NewDs64 js (new_ds64 js size cs) size
         go (inl i) =
             let d = new_ds64 [] size cs in
             let body : length d.body ≡ 28 = ds64_len 28 size main (main / first_size (formats cs)) (omega arith) in
             let all : length (spell_all kids) ≡ length (spell_all cs) = ap (λ (ys : List Chunk). length (spell_all (drop (length ys) cs))) i in
-            subst (λ (ys : List Chunk). NewDs64 (new_ds64 ys size cs) size) (sym i) (record {
+            subst (λ (ys : List Chunk). NewDs64 ys (new_ds64 ys size cs) size) (sym i) (record {
               len = 28;
               low = omega arith;
               high = omega arith;
@@ -379,7 +384,7 @@ module _ (o : List ℕ) (bytes : IsBytes o) (sup : Supported o) (narrow : is_big
               id_is = refl;
               body_is = refl;
               pad_is = refl;
-              took = inl (omega (arith, all, spell_ds64 d 28 refl refl body));
+              more = omega (arith, all, spell_ds64 d 28 refl refl body);
             })
         go (inr s) =
             let j = s.junk in
@@ -398,7 +403,7 @@ module _ (o : List ℕ) (bytes : IsBytes o) (sup : Supported o) (narrow : is_big
             let old : length (spell_all cs) ≡ (8 + (length j.body + length j.pad)) + length (spell_all s.rest)
             = ap (λ (xs : List Chunk). length (spell_all xs)) s.cs_is
             ∙ omega (arith, head, length-append (spell j) (spell_all s.rest), length-append (header_bytes j.form j.id (length j.body)) (j.body ++ j.pad), length-append j.body j.pad) in
-            subst (λ (ys : List Chunk). NewDs64 (new_ds64 ys size cs) size) (sym s.js_is) (record {
+            subst (λ (ys : List Chunk). NewDs64 ys (new_ds64 ys size cs) size) (sym s.js_is) (record {
               len = length j.body;
               low = low;
               high = high;
@@ -406,7 +411,7 @@ module _ (o : List ℕ) (bytes : IsBytes o) (sup : Supported o) (narrow : is_big
               id_is = refl;
               body_is = refl;
               pad_is = pad;
-              took = inr (omega (arith, all, old, spell_ds64 d (length j.body) refl refl body));
+              more = omega (arith, all, old, spell_ds64 d (length j.body) refl refl body);
             })
           where
             whole_pad : (j : Chunk) → lacks_pad j ≡ false → PadStands j.form (length j.body) j.pad (spell_all s.rest ++ n.left) → length j.pad ≡ pad_len j.form (length j.body)
@@ -444,11 +449,15 @@ module _ (o : List ℕ) (bytes : IsBytes o) (sup : Supported o) (narrow : is_big
         omega (arith, none, length-append (spell_all w.ds64) (spell_all cs ++ w.left), length-append (spell_all cs) w.left)
 
     parity : length (inner v) % 2 ≡ new_size w e % 2
-    parity = go (new_is size).took
+    parity = go js (new_is size).more
       where
-        go : (length (spell_all (d ∷ [])) + length (spell_all kids) ≡ length (spell_all cs) + 36) ⊎ (length (spell_all (d ∷ [])) + length (spell_all kids) ≡ length (spell_all cs)) → length (inner v) % 2 ≡ new_size w e % 2
-        go (inl x) = omega (arith, x, any_len js size, inner_is size, plain_size)
-        go (inr x) = omega (arith, x, any_len js size, inner_is size, plain_size)
+        go : (ys : List Chunk) → length (spell_all (d ∷ [])) + length (spell_all kids) ≡ length (spell_all cs) + more_bytes ys → length (inner v) % 2 ≡ new_size w e % 2
+        go [] x = omega (arith, x, any_len js size, inner_is size, plain_size)
+        go (j ∷ ys) x = omega (arith, x, any_len js size, inner_is size, plain_size)
+
+    -- how large it is
+    pub wide_size : size ≡ new_size w e + more_bytes js
+    wide_size = omega (arith, (new_is size).more, any_len js size, inner_is 0, plain_size)
 
     wide_pad : PadStands riff (length (inner v)) v.pad v.tail
     wide_pad = go (pad_stands (length (inner w)) (new_size w e) w.pad w.tail (old_pad o bytes sup))

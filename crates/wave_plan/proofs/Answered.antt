@@ -7,17 +7,19 @@ use Rattle.part_tree.specs.declared.field.EditItem.{EditItem}
 use Rattle.part_tree.specs.declared.plan.Patch.{Patch}
 use Rattle.part_tree.specs.declared.plan.Plan.{Plan}
 use Rattle.part_tree.specs.declared.plan.Plan.TheVariants.{InPlace, Rewrite}
-use Rattle.field_model.specs.Update.{raw_items}
+use Rattle.field_model.specs.Update.{effective, raw_items}
 use Rattle.container_model.proofs.Codec.{IsBytes}
 use Rattle.part_tree.specs.Large.{Size, limited, is_above, first_above}
 use Rattle.carrier_model.specs.Room.{units_fit}
 use Rattle.part_tree.specs.Patches.{all_bytes}
 use Rattle.part_tree.specs.Plans.{CanRun}
+use Rattle.field_model.specs.KindReads.{IsForm}
+use Rattle.wave_model.specs.Kind.{narrow_kind}
 use Rattle.wave_model.specs.Wave.{is_big, is_wide, wave_of, form_kind, spell_wave}
 use Rattle.wave_model.specs.Fields.{fields}
 use Rattle.wave_model.specs.Edited.{Supported}
 use Rattle.wave_model.specs.New.{ends_file, pieces_of, new_size, new_wave, new_file}
-use Rattle.wave_model.specs.Large.{form_sizes, all_sizes, too_large}
+use Rattle.wave_model.specs.Large.{form_sizes, all_sizes, large_by, too_large}
 use Rattle.wave_model.specs.Room.{Room, patches}
 use Rattle.wave_model.proofs.Few.{few_patches}
 use Rattle.unit_plan.specs.declared.row.UnitCuts.{UnitCuts}
@@ -28,11 +30,11 @@ use Rattle.unit_plan.proofs.Overlaid.{spliced_length}
 use Rattle.wave_plan.specs.declared.frame.Frame.{Frame}
 use Rattle.wave_plan.specs.Frame.{IsFrame}
 use Rattle.wave_plan.specs.Framed.{framed}
-use Rattle.wave_plan.specs.Planned.{ComesTo, IsForm, IsListed, StandsIn, list_sizes, sizes_by}
+use Rattle.wave_plan.specs.Planned.{ComesTo, IsListed, StandsIn, list_sizes, sizes_by}
 use Rattle.wave_plan.proofs.Numbers.{framed_ascend}
 use Rattle.wave_plan.proofs.Told.{fits_are, makes_new, parts_told, patches_told}
 
-above_none : (a b : List Size) → first_above a ≡ None → first_above (a ++ b) ≡ first_above b
+pub above_none : (a b : List Size) → first_above a ≡ None → first_above (a ++ b) ≡ first_above b
 above_none [] b e = refl
 above_none (s ∷ a) b e = go (is_above s) refl (above_none a b)
   where
@@ -69,10 +71,17 @@ module _ (b : List ℕ) (e : List EditItem) (bytes : IsBytes b) (sup : Supported
       ∙ ap (λ (x : List Size). list_sizes b e ++ (limited 65536 parts_now ∷ (x ++ file)))
       (form_sizes_by (is_wide b) v.id (new_size v r) ∙ ap (sizes_by (is_wide b) (is_big v.id)) (sym size) ∙ ap (λ (t : Bool). sizes_by t (is_big v.id) n) (sym fr.wide) ∙ ap (λ (t : Bool). sizes_by f.wide t n) (sym fr.big))
 
+  narrow_effect : IsListed b e → too_large b e ≡ first_above (all_sizes (wave_of b) (raw_items (fields b) e))
+  narrow_effect listed = go (effective (fields b) e) listed.effect
+    where
+      go : (is : List EditItem) → 0 < length is → large_by is (wave_of b) (raw_items (fields b) e) ≡ first_above (all_sizes (wave_of b) (raw_items (fields b) e))
+      go [] h = absurd (omega (arith, h))
+      go (i ∷ is) h = refl
+
   pub large_told : (parts_now n : ℕ) → IsListed b e → parts_now ≡ u.parts + cond f.big 1 0 → n ≡ new_size (wave_of b) (raw_items (fields b) e)
       → too_large b e ≡ first_above ((limited 65536 parts_now ∷ sizes_by f.wide f.big n) ++ limited (2 ^ 63 - 1) (length (new_file b e)) ∷ [])
   large_told parts_now n listed is size =
-      listed.effect ∙ ap first_above (sizes_told parts_now n is size) ∙ above_none (list_sizes b e) ((limited 65536 parts_now ∷ sizes_by f.wide f.big n) ++ limited (2 ^ 63 - 1) (length (new_file b e)) ∷ []) listed.lists
+      narrow_effect listed ∙ ap first_above (sizes_told parts_now n is size) ∙ above_none (list_sizes b e) ((limited 65536 parts_now ∷ sizes_by f.wide f.big n) ++ limited (2 ^ 63 - 1) (length (new_file b e)) ∷ []) listed.lists
 
   -- the parts, or the form
   pub refuses : (parts_now n : ℕ) (s : Size) → IsListed b e → parts_now ≡ u.parts + cond f.big 1 0 → n ≡ new_size (wave_of b) (raw_items (fields b) e)
@@ -99,7 +108,7 @@ module _ (b : List ℕ) (e : List EditItem) (bytes : IsBytes b) (sup : Supported
 
   -- the form of the plan
   pub form_told : (n new : ℕ) → n + f.len ≡ spliced_len f.len u.cuts.items + f.size → n ≡ new_size (wave_of b) (raw_items (fields b) e) → new ≡ length (new_file b e) → too_large b e ≡ None
-      → (p : Plan) → CanRun p → Units.IsPlanOf u.fits f.len new (flat_map patch_of (framed f n u.cuts.items)) p → IsForm b e p
+      → (p : Plan) → CanRun p → Units.IsPlanOf u.fits f.len new (flat_map patch_of (framed f n u.cuts.items)) p → IsForm narrow_kind b e p
   form_told n new sum is long small (InPlace old m qs) can h =
       let ps : qs ≡ patches b e = h.3 ∙ patches_told b e bytes sup f fr u comes st n sum is h.0 in
       let bytes_few : all_bytes (patches b e) ≤ 2 ^ 24 = omega (arith, can.rules.small, ap all_bytes ps) in (

@@ -118,7 +118,7 @@ same_first b w at (c ∷ cs) h e =
 -- ---- the form's pad
 
 -- a span where the pad is, or none where there is none before and after
-pads_same : (b : List ℕ) (cs : List Cut) (at q : ℕ) (pad new : List ℕ) → new ≡ replicate q 0 → pad ≡ take (length pad) (drop at b) → Ascend 0 (cs ++ record { at = at; len = length pad; bytes = new } ∷ []) (length b)
+pub pads_same : (b : List ℕ) (cs : List Cut) (at q : ℕ) (pad new : List ℕ) → new ≡ replicate q 0 → pad ≡ take (length pad) (drop at b) → Ascend 0 (cs ++ record { at = at; len = length pad; bytes = new } ∷ []) (length b)
     → splice b (cs ++ map (cut_in b) (cond (eqb (length pad) 0 && eqb q 0) [] (record { span = record { at = at; len = length pad }; bytes = replicate q 0; keep = 0 } ∷ []))) ≡ splice b (cs ++ pad_cut at pad new)
 pads_same b cs at q pad new is stood h = go (eqb (length pad) 0 && eqb q 0) refl
   where
@@ -154,7 +154,7 @@ size_set : (b : List ℕ) (t : Bool) (n : ℕ) (cs : List Cut) → Ascend ((size
 size_set b true n cs h = first_cut 20 (to_le_bytes w64 n) b cs h
 size_set b false n cs h = first_cut 4 (to_le_bytes w32 n) b cs h
 
-map-append : (b : List ℕ) (xs ys : List CutAt) → map (cut_in b) (xs ++ ys) ≡ map (cut_in b) xs ++ map (cut_in b) ys
+pub map-append : (b : List ℕ) (xs ys : List CutAt) → map (cut_in b) (xs ++ ys) ≡ map (cut_in b) xs ++ map (cut_in b) ys
 map-append b [] ys = refl
 map-append b (x ∷ xs) ys = ap (λ (cs : List Cut). cut_in b x ∷ cs) (map-append b xs ys)
 
@@ -165,7 +165,7 @@ take_again n x = go (leb n (length x)) refl
     go true e = ap (λ (k : ℕ). take k x) (omega (arith, length-take n x, leb-true n (length x) e))
     go false e = ap (λ (y : List ℕ). y) (take_all n x (omega (arith, leb-false n (length x) e)) ∙ sym (take_all (length (take n x)) x (omega (arith, length-take n x, leb-false n (length x) e))))
 
-eqb_sym : (a b : ℕ) → eqb a b ≡ eqb b a
+pub eqb_sym : (a b : ℕ) → eqb a b ≡ eqb b a
 eqb_sym a b = go (eqb a b) refl
   where
     go : (t : Bool) → eqb a b ≡ t → t ≡ eqb b a
@@ -177,7 +177,7 @@ eqb_sym a b = go (eqb a b) refl
         by true i = absurd (eqb-false a b e (sym (eqb-true b a i)))
 
 -- the pad of a form that has another size
-abbrev new_pad_by : Wave → ℕ → List ℕ
+abbrev pub new_pad_by : Wave → ℕ → List ℕ
 new_pad_by v n = cond (eqb (n % 2) 1 && not (is_nil v.tail)) (0 ∷ []) []
 
 tail_some : (x : List ℕ) → not (is_nil x) ≡ ltb 0 (length x)
@@ -190,6 +190,20 @@ inner_long b = omega (arith, length-append (spell_all (wave_of b).ds64) (spell_a
 pub file_long : (b : List ℕ) → IsBytes b → Supported b → length b ≡ 8 + (length (inner (wave_of b)) + (length (wave_of b).pad + length (wave_of b).tail))
 file_long b bytes sup =
     omega (arith, long_file b sup, ap length (behind_body b bytes sup), length-drop 8 b, length-append (inner (wave_of b)) ((wave_of b).pad ++ (wave_of b).tail), length-append (wave_of b).pad (wave_of b).tail)
+
+-- what stands behind ds64
+pub behind_chunks : (b : List ℕ) → IsBytes b → Supported b → drop (children_at (wave_of b)) b ≡ spell_all (wave_of b).children ++ ((wave_of b).left ++ ((wave_of b).pad ++ (wave_of b).tail))
+behind_chunks b bytes sup =
+    let v = wave_of b in
+    let at = children_at v in
+    let front = codes "WAVE" ++ spell_all v.ds64 in
+    let after = spell_all v.children ++ (v.left ++ (v.pad ++ v.tail)) in
+    let place : at ≡ 8 + (at - 8) = omega arith in
+    let size : length front ≡ at - 8 = omega (arith, length-append (codes "WAVE") (spell_all v.ds64)) in
+    ap (λ (n : ℕ). drop n b) place ∙ sym (drop-drop (at - 8) 8 b) ∙ ap (drop (at - 8)) (behind_body b bytes sup ∙ regroup (spell_all v.ds64) (spell_all v.children) v.left (v.pad ++ v.tail)) ∙ drop_at front after (at - 8) size
+  where
+    regroup : (d c l t : List ℕ) → (codes "WAVE" ++ (d ++ (c ++ l))) ++ t ≡ (codes "WAVE" ++ d) ++ (c ++ (l ++ t))
+    regroup d c l t = simp append_assoc
 
 module _ (b : List ℕ) (e : List EditItem) (bytes : IsBytes b) (sup : Supported b) (f : Frame) (fr : IsFrame b f) (u : UnitCuts) (comes : ComesTo b e u) (st : StandsIn f u) where
   whole : SpansAscend 0 u.cuts.items f.len
@@ -228,18 +242,7 @@ module _ (b : List ℕ) (e : List EditItem) (bytes : IsBytes b) (sup : Supported
 
   -- the file, cut where the chunks behind ds64 begin
   behind_front : drop (children_at (wave_of b)) b ≡ flat_map old_bytes (pieces_of (wave_of b) (raw_items (fields b) e)) ++ ((wave_of b).left ++ ((wave_of b).pad ++ (wave_of b).tail))
-  behind_front =
-      let v = wave_of b in
-      let at = children_at v in
-      let front = codes "WAVE" ++ spell_all v.ds64 in
-      let after = spell_all v.children ++ (v.left ++ (v.pad ++ v.tail)) in
-      let place : at ≡ 8 + (at - 8) = omega arith in
-      let size : length front ≡ at - 8 = omega (arith, length-append (codes "WAVE") (spell_all v.ds64)) in
-      ap (λ (n : ℕ). drop n b) place ∙ sym (drop-drop (at - 8) 8 b) ∙ ap (drop (at - 8)) (behind_body b bytes sup ∙ regroup (spell_all v.ds64) (spell_all v.children) v.left (v.pad ++ v.tail))
-      ∙ drop_at front after (at - 8) size ∙ ap (λ (x : List ℕ). x ++ (v.left ++ (v.pad ++ v.tail))) (sym old_is)
-    where
-      regroup : (d c l t : List ℕ) → (codes "WAVE" ++ (d ++ (c ++ l))) ++ t ≡ (codes "WAVE" ++ d) ++ (c ++ (l ++ t))
-      regroup d c l t = simp append_assoc
+  behind_front = behind_chunks b bytes sup ∙ ap (λ (x : List ℕ). x ++ ((wave_of b).left ++ ((wave_of b).pad ++ (wave_of b).tail))) (sym old_is)
 
   -- the file with the units' spans replaced
   units_spliced : splice b (map (cut_in b) u.cuts.items) ≡ take (children_at (wave_of b)) b ++ (spell_all (new_children (wave_of b) (raw_items (fields b) e)) ++ ((wave_of b).left ++ ((wave_of b).pad ++ (wave_of b).tail)))
@@ -304,13 +307,13 @@ module _ (b : List ℕ) (e : List EditItem) (bytes : IsBytes b) (sup : Supported
           same_first b (to_le_bytes w32 n) 4 (map (cut_in b) u.cuts.items) (low_units false (fr.wide ∙ i) n) here
 
   -- the pad that is there
-  pad_stood : (wave_of b).pad ≡ take (length (wave_of b).pad) (drop (8 + length (inner (wave_of b))) b)
+  pub pad_stood : (wave_of b).pad ≡ take (length (wave_of b).pad) (drop (8 + length (inner (wave_of b))) b)
   pad_stood =
       let behind : behind_form b ≡ drop (8 + length (inner (wave_of b))) b = drop-drop (form_size b) 8 b ∙ ap (λ (n : ℕ). drop (8 + n) b) (sym (inner_len b bytes sup)) in
       take_again (pad_len riff (form_size b)) (behind_form b) ∙ ap (take (length (wave_of b).pad)) behind
 
   -- the pad that is to be there
-  pad_told : (n : ℕ) → new_pad_by (wave_of b) n ≡ replicate (pad_after f n) 0
+  pub pad_told : (n : ℕ) → new_pad_by (wave_of b) n ≡ replicate (pad_after f n) 0
   pad_told n = ap (λ (t : Bool). cond {A = List ℕ} (eqb (n % 2) 1 && t) (0 ∷ []) []) (tail_some (wave_of b).tail ∙ ap (ltb 0) (sym tail_long)) ∙ by (eqb (n % 2) 1 && ltb 0 (tail_len f))
     where
       by : (t : Bool) → cond {A = List ℕ} t (0 ∷ []) [] ≡ replicate (cond t 1 0) 0
@@ -409,7 +412,7 @@ module _ (b : List ℕ) (e : List EditItem) (bytes : IsBytes b) (sup : Supported
 
   -- ---- the parts
 
-  counted : (cs : List Chunk) → parts_in part_count cs ≡ length (flat_map parts_of cs)
+  pub counted : (cs : List Chunk) → parts_in part_count cs ≡ length (flat_map parts_of cs)
   counted [] = refl
   counted (c ∷ cs) = omega (arith, counted cs, length-append (parts_of c) (flat_map parts_of cs))
 

@@ -1,3 +1,4 @@
 pub mod Frame
 pub mod Framed
+pub mod Widened
 pub mod Planned

@@ -1,30 +1,23 @@
 -- What a planner makes of an edit: a plan, or the first size that is too large (this project's own).
-use Rattle.std.specs.Prelude.{◌≡◌, ◌⊎◌, ℕ, ◌^◌, List, [], ◌∷◌, length, map, Bool, true, false, Option, Some, None, Result}
-use Rattle.std.specs.declared.result.Result.TheVariants.{Ok, Err}
+use Rattle.std.specs.Prelude.{◌≡◌, ◌<◌, ◌⊎◌, ℕ, ◌^◌, List, [], ◌∷◌, length, map, Bool, true, false, Option, Some, None}
 use Rattle.std.specs.List.{AllByRecursion}
 use Rattle.part_tree.specs.declared.field.EditItem.{EditItem}
-use Rattle.part_tree.specs.declared.plan.Plan.{Plan}
-use Rattle.part_tree.specs.declared.plan.Plan.TheVariants.{InPlace, Rewrite}
-use Rattle.field_model.specs.KindReads as planned
-use Rattle.field_model.specs.Update.{raw_items}
+use Rattle.field_model.specs.Kind.{IsAccepted}
+use Rattle.field_model.specs.Update.{effective, raw_items}
 use Rattle.container_model.specs.Chunk.{Chunk}
 use Rattle.container_model.specs.Units.{Cell}
 use Rattle.part_tree.specs.Large.{Size, limited, first_above}
-use Rattle.part_tree.specs.Plans.{Belongs, applied}
-use Rattle.wave_model.specs.Kind.{narrow_kind}
+use Rattle.wave_model.specs.Kind.{wave_kind}
 use Rattle.wave_model.specs.Wave.{wave_of, cells_of}
 use Rattle.wave_model.specs.Fields.{is_info, bodies, fields}
 use Rattle.wave_model.specs.Carry.{steps}
 use Rattle.carrier_model.specs.Steps.{carried}
 use Rattle.wave_model.specs.Edited.{parts_of}
-use Rattle.wave_model.specs.New.{ends_file, new_children, children_at, new_file}
-use Rattle.wave_model.specs.Large.{most_by, all_sizes, too_large}
-use Rattle.wave_model.specs.Room.{Room, patches}
+use Rattle.wave_model.specs.New.{ends_file, new_children, children_at}
+use Rattle.wave_model.specs.Large.{most_by}
 use Rattle.unit_plan.specs.declared.row.UnitCuts.{UnitCuts}
 use Rattle.unit_plan.specs.Rows.{cells_outcome}
 use Rattle.unit_plan.specs.Cuts.{FitsIn, IsExact, SpansAscend, outcome_in}
-use Rattle.part_tree.specs.declared.plan.PlanFault.{PlanFault}
-use Rattle.part_tree.specs.declared.plan.PlanFault.TheVariants.{TooLarge, Depot, Memory}
 use Rattle.wave_plan.specs.declared.frame.Frame.{Frame}
 use Rattle.wave_plan.specs.declared.plan.Passed.{Passed}
 use Rattle.wave_plan.specs.Frame.{IsRound}
@@ -47,9 +40,10 @@ ComesTo b e u = outcome_in b u ≡ cells_outcome part_count (ends_file (wave_of 
 abbrev pub list_sizes : List ℕ → List EditItem → List Size
 list_sizes b e = map (λ x. limited (2 ^ 24) (length x)) (bodies is_info (new_children (wave_of b) (raw_items (fields b) e)))
 
--- An edit of which an item has an effect, and of which no list is too large.
+-- An edit that breaks no basic rule, of which an item has an effect, and of which no list is too large.
 pub record IsListed (b : List ℕ) (e : List EditItem) : Type 0 where
-  pub effect : too_large b e ≡ first_above (all_sizes (wave_of b) (raw_items (fields b) e))
+  pub accepted : IsAccepted wave_kind b e
+  pub effect : 0 < length (effective (fields b) e)
   pub lists : first_above (list_sizes b e) ≡ None
 
 -- Whatever the file: the spans of the units lie in the form, and are exact where the units fit, but that the last one may end
@@ -72,17 +66,3 @@ sizes_by false big n = limited (most_by big) n ∷ []
 abbrev pub passed : Option Passed → Option Size
 passed None = None
 passed (Some p) = Some (limited p.limit p.size)
-
--- ---- the answer
-
--- In place exactly where the edit has room, and then with its patches; else a new file.
-abbrev pub IsForm : List ℕ → List EditItem → Plan → Type 0
-IsForm b e p = planned.IsForm narrow_kind b e p
-
--- A plan of an edit of a file that isn't too large, which makes the new file.
-abbrev pub IsPlanOf : List ℕ → List EditItem → Plan → Type 0
-IsPlanOf b e p = planned.IsPlanOf narrow_kind b e p
-
--- the plan of an edit, or the first size that is too large
-abbrev pub PlansEdit : List ℕ → List EditItem → Result Plan PlanFault → Type 0
-PlansEdit b e r = planned.PlansKind narrow_kind b e r

@@ -20,8 +20,8 @@ fn pad_bytes(alloc: Global, len: u64) -> Result<Bytes, NoMemory>
     Ok(bytes)
 }
 
-// The span of the form's pad, where there is one before or after.
-fn pad_cut(alloc: Global, frame: &Frame, size: u64) -> Result<Option<CutAt>, NoMemory>
+/// The span of the form's pad, where there is one before or after.
+pub fn pad_cut(alloc: Global, frame: &Frame, size: u64) -> Result<Option<CutAt>, NoMemory>
     requires { 8 + frame.now.size + frame.now.pad ≤ frame.now.len }
     ensures { IfOk result (λ found. found_list found ≡ pad_cuts frame.now size) }
 {

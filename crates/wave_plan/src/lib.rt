@@ -8,7 +8,9 @@ mod plan;
 mod row;
 #[cfg(test)]
 mod tests;
+mod widen;
 
 pub use frame::{FormAt, Frame, read_frame};
 pub use plan::{Passed, plan_units};
 pub use row::plan_row;
+pub use widen::{Widening, plan_widened};

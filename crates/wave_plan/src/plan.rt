@@ -4,13 +4,17 @@ ghost use Rattle.me_bytes.specs.Bytes.{IsBytes};
 ghost use Rattle.part_tree.specs.declared.field.EditItem.{EditItem};
 ghost use Rattle.part_tree.specs.Large.{first_above, limited};
 ghost use Rattle.part_tree.specs.Plans.{Belongs, CanRun};
+ghost use Rattle.field_model.specs.KindReads.{PlansKind};
 ghost use Rattle.unit_plan.specs.Sized.{spliced_len};
 ghost use Rattle.wave_model.specs.Edited.{Supported};
 ghost use Rattle.wave_plan.specs.Frame.{IsFrame};
-ghost use Rattle.wave_plan.specs.Planned.{ComesTo, IsListed, PlansEdit, StandsIn, passed, sizes_by};
+ghost use Rattle.wave_model.specs.Kind.{narrow_kind, wave_kind};
+ghost use Rattle.wave_plan.specs.Planned.{ComesTo, IsListed, StandsIn, passed, sizes_by};
+ghost use Rattle.wave_plan.specs.Widened.{FitsReserved, IsWideningOf};
 
 use crate::frame::Frame;
 use crate::framed::framed;
+use crate::widen::{Widening, plan_widened};
 use part_tree::{Plan, PlanFault};
 use std::alloc::Global;
 use unit_plan::{UnitCuts, new_len, plan_of};
@@ -64,23 +68,20 @@ fn size_after(frame: &Frame, moved: u64) -> u64
     moved - (frame.len - frame.size)
 }
 
-/// The plan of an edit of a form, by what its units come to. `TooLarge` is the first of these that passes its limit: the parts,
-/// the form's size in its own field, and the file.
-pub fn plan_units(alloc: Global, frame: &Frame, units: UnitCuts) -> Result<Plan, PlanFault>
-    requires { StandsIn frame.now units }
-    ensures plans { (b : List ℕ) (e : List EditItem) → IsBytes b → Supported b → IsFrame b frame.now → ComesTo b e units → IsListed b e → PlansEdit b e result }
+// The plan of an edit that keeps the width of a form's size, by what its units come to; the form has `size` bytes then. `TooLarge` is
+// the first of these that passes its limit: the parts, the form's size in its own field, and the file.
+fn plan_narrow(alloc: Global, frame: &Frame, size: u64, units: UnitCuts) -> Result<Plan, PlanFault>
+    requires stands { StandsIn frame.now units }
+    requires sum { size + frame.now.len ≡ spliced_len frame.now.len units.cuts.items + frame.now.size }
+    ensures plans { (b : List ℕ) (e : List EditItem) → IsBytes b → Supported b → IsFrame b frame.now → ComesTo b e units → IsListed b e → PlansKind narrow_kind b e result }
     ensures can { IfOk result (λ p. CanRun p) }
     ensures belongs { IfOk result (λ p. (b : List ℕ) → length b ≡ frame.now.len → Belongs p b) }
     ensures reads_nothing { result ≡ Err PlanFault.Depot → ⊥ }
 {
     let UnitCuts { cuts, fits, parts } = units;
-    let Some(moved) = new_len(&cuts, frame.len) else {
-        return Err(PlanFault::Memory);
-    };
     let Some(parts) = parts.checked_add(table_parts(frame.big)) else {
         return Err(PlanFault::Memory);
     };
-    let size = size_after(frame, moved);
     match first_passed(frame, parts, size) {
         Some(Passed { size, limit }) => return Err(PlanFault::TooLarge { size, limit }),
         None => {}
@@ -102,4 +103,29 @@ pub fn plan_units(alloc: Global, frame: &Frame, units: UnitCuts) -> Result<Plan,
         Err(_) => Err(PlanFault::Memory),
         Ok(plan) => Ok(plan),
     }
+}
+
+/// The plan of an edit of a form, by what its units come to: a RIFF form that its own field can't tell becomes RF64. `TooLarge` is the
+/// first of these that passes its limit: the parts, the form's size where it stands in its own field, and the file.
+pub fn plan_units(
+    alloc: Global,
+    frame: &Frame,
+    widening: &Widening,
+    units: UnitCuts,
+) -> Result<Plan, PlanFault>
+    requires stands { StandsIn frame.now units }
+    requires reserved { FitsReserved widening.now.reserved }
+    ensures plans { (b : List ℕ) (e : List EditItem) → IsBytes b → Supported b → IsFrame b frame.now → IsWideningOf b widening.now → ComesTo b e units → IsListed b e → PlansKind wave_kind b e result }
+    ensures can { IfOk result (λ p. CanRun p) }
+    ensures belongs { IfOk result (λ p. (b : List ℕ) → length b ≡ frame.now.len → Belongs p b) }
+    ensures reads_nothing { result ≡ Err PlanFault.Depot → ⊥ }
+{
+    let Some(moved) = new_len(&units.cuts, frame.len) else {
+        return Err(PlanFault::Memory);
+    };
+    let size = size_after(frame, moved);
+    if !frame.big && size > MOST_SIZE {
+        return plan_widened(alloc, frame, widening, size, units);
+    }
+    plan_narrow(alloc, frame, size, units)
 }

@@ -2,9 +2,9 @@
 ghost use Rattle.std.specs.Prelude.{◌≡◌, IfOk};
 ghost use Rattle.unit_plan.specs.Places.{Follow};
 
-use crate::{FormAt, plan_row};
+use crate::{FormAt, Widening, plan_row};
 use me_disk::{MemoryDepot, Room};
-use part_tree::{Bytes, NoMemory, Plan, PlanFault};
+use part_tree::{Bytes, NoMemory, Plan, PlanFault, Span};
 use std::alloc::{AllocError, Global};
 use std::test::Fail;
 use unit_plan::{Place, What};
@@ -66,7 +66,12 @@ fn planned(alloc: Global, places: &[Place]) -> Result<Result<Plan, PlanFault>, F
         len: 48,
         end: 48,
     };
-    Ok(plan_row(alloc, &mut depot, form, places, 12, 48))
+    let widening = Widening {
+        reserved: None,
+        sound: Span { at: 44, len: 4 },
+        align: 2,
+    };
+    Ok(plan_row(alloc, &mut depot, form, &widening, places, 12, 48))
 }
 
 // A list of 24 bytes at the end; 610 bytes before `fmt `; and more parts than a file may have.

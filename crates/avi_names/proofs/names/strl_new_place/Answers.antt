@@ -6,7 +6,8 @@ use Rattle.me_disk.proofs.Runs.{ReadsOnly-refl, ReadsOnly-trans}
 use Rattle.me_disk.proofs.Windows.{empty_window}
 use Rattle.riff_form.specs.declared.StepFault.TheVariants.{Truncated}
 use Rattle.riff_form.specs.Walk.{chunk_in, row, InOrder, Stepped, Stuck}
-use Rattle.avi_names.specs.Names.{is_head, new_place}
+use Rattle.carrier_model.specs.Names.{is_head}
+use Rattle.avi_names.specs.Names.{new_place}
 use Rattle.avi_names.proofs.Left.{placed, all_placed, never_cut, place_start}
 use Rattle.avi_names.proofs.names.strl_new_place.Goals as goal
 

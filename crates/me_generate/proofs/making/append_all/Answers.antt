@@ -1,4 +1,4 @@
-use Rattle.std.proofs.Common.{◌≡◌, ◌++◌, refl, rules}
+use Rattle.std.proofs.Common.{◌++◌, refl, rules}
 use Rattle.me_generate.specs.Makes.{Grows}
 use Rattle.me_generate.specs.Rows.{rows}
 use Rattle.me_generate.specs.Stated.{whole}

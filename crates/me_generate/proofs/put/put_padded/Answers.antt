@@ -1,4 +1,4 @@
-use Rattle.std.proofs.Common.{◌≡◌, ◌++◌, length, min, take, rules}
+use Rattle.std.proofs.Common.{◌≡◌, ◌++◌, take, rules}
 use Rattle.me_generate.proofs.Zeros.{padded_is}
 use Rattle.me_generate.proofs.put.put_padded.Goals as goal
 

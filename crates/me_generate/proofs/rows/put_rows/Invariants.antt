@@ -1,4 +1,4 @@
-use Rattle.std.proofs.Common.{◌≡◌, ◌++◌, ◌≤◌}
+use Rattle.std.proofs.Common.{◌≡◌, ◌++◌}
 use Rattle.me_generate.specs.Rows.{rows}
 use Rattle.me_generate.proofs.rows.put_rows.Given as goal
 

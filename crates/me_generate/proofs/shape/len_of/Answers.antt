@@ -1,4 +1,4 @@
-use Rattle.std.proofs.Common.{◌≡◌, ℕ, length, sym, ap, ◌∙◌}
+use Rattle.std.proofs.Common.{length, sym, ap, ◌∙◌}
 use Rattle.part_tree.specs.declared.names.Kind.{Kind}
 use Rattle.me_generate.specs.Stated.{stated}
 use Rattle.me_generate.proofs.Lengths.{avi_len, other_len, wave_len}

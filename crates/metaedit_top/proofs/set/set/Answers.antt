@@ -1,91 +1,82 @@
-use Rattle.std.proofs.Common.{◌≡◌, List, Some, true, subst, sym, ap, ◌∙◌, length}
+use Rattle.std.proofs.Common.{rules, ◌≡◌, List, length, false, Err, Some, None, refl, sym, subst, ap, ◌∙◌}
 use Rattle.std.specs.Prelude.{◌==◌}
-use Rattle.me_disk.specs.Disk.{Only, read_as, bytes_of}
-use Rattle.me_disk.proofs.Runs.{Leaves-reads}
 use Rattle.part_tree.specs.declared.field.EditItem.{EditItem}
-use Rattle.metaedit_top.specs.Changed.{ChangeLeaves, ChangeStops}
-use Rattle.metaedit_top.specs.Run.{MayLeave}
-use Rattle.part_tree.specs.declared.why.Why.{Why}
-use Rattle.metaedit_top.specs.Asked.{reads_file, why_in}
-use Rattle.metaedit_top.specs.Stage.{ActLeaves, ActStops, OnHeld}
-use Rattle.metaedit_top.proofs.Acted.{alone_only, alone_on}
-use Rattle.metaedit_top.proofs.Ran.{at_err}
-use Rattle.metaedit_top.proofs.Sets.{holds_back, ready, idle_ends, change_ends, change_stops, change_leaves, change_crash, told_why, told_broken, is_none, is_some, on_ok}
+use Rattle.part_tree.specs.declared.fields.Entry.{Entry}
+use Rattle.part_tree.specs.Fields.{values}
+use Rattle.field_model.specs.Lawful.{IsLawful}
+use Rattle.field_model.specs.Update.{effective}
+use Rattle.me_disk.proofs.Runs.{ReadsOnly-trans}
+use Rattle.me_report.specs.Done.{done_line}
+use Rattle.edit_planner.specs.Plan.{told_in}
+use Rattle.metaedit_top.specs.declared.outcome.Stop.TheVariants as stop
+use Rattle.metaedit_top.specs.Stage.{Acts}
+use Rattle.metaedit_top.specs.Told.{look_summary}
+use Rattle.metaedit_top.proofs.Acted.{no_memory}
+use Rattle.metaedit_top.proofs.Looks.{still_read}
+use Rattle.metaedit_top.proofs.Sets.{broken_in, rule_stops, ready, idle_acts, change_acts, is_none, is_some}
 use Rattle.metaedit_top.proofs.set.set.Goals as goal
 
-pub returns-in-Err-Why-clause-stops : goal.returns-in-Err-Why-clause-stops
-returns-in-Err-Why-clause-stops g c =
-    subst (λ (w : Why). (reads_file c.args.request.now.command ≡ true) × OnHeld (g.D.Depot.disk c.args.depot.now) (λ o. why_in o ≡ Some w)) (sym c.in-Err-Why.why-is)
-    (told_why c.args.request.now (g.D.Depot.disk c.args.depot.now) c.in-Err-Why.field-0 c.in-Err-Why.why c.requires.command c.in-Err-Why.field-0-is c.in-Err-Why.ensures.file)
+pub first_broken-requires : goal.first_broken-requires
+first_broken-requires g c = subst (λ (es : List Entry). IsLawful (values es)) (sym c.fields.ensures) c.in_ok-map.ensures.tells.lawful
 
-pub returns-in-Some-clause-stops : goal.returns-in-Some-clause-stops
-returns-in-Some-clause-stops g c =
-    told_broken c.args.request.now (g.D.Depot.disk c.args.depot.now) c.in-Ok.map c.in-Some.broken c.requires.command c.in-Ok.ensures.file c.in-Some.ensures
+pub effective-requires : goal.effective-requires
+effective-requires g c = subst (λ (es : List Entry). IsLawful (values es)) (sym c.fields-2.ensures) c.in_ok-map.ensures.tells.lawful
 
-pub returns-in-Some-clause-crash : goal.returns-in-Some-clause-crash
-returns-in-Some-clause-crash g c =
+pub returns-in-Some : goal.returns-in-Some
+returns-in-Some g c = λ stood.
+    let m = c.in_ok-map.map in
+    rule_stops c.args.request.now c.requires.command stood (g.D.Depot.disk c.args.depot.now) (g.D.Depot.disk c.read.new.depot) m c.in_ok-map.ensures.tells c.in_ok-map.ensures.reads c.in-Some.broken
+    (broken_in m c.kind.result c.streams.result c.fields.result.now c.args.request.now.edit c.args.request.now.rules (Some c.in-Some.broken) c.kind.ensures c.streams.ensures c.fields.ensures c.in-Some.ensures)
+
+pub returns-in_err-edit : goal.returns-in_err-edit
+returns-in_err-edit g c = λ stood.
     let a = g.D.Depot.disk c.args.depot.now in
-    let b = g.D.Depot.disk c.read_file.new.depot in
-    Leaves-reads (MayLeave c.args.request.now a) a b c.in-Ok.ensures.reads
+    let b = g.D.Depot.disk c.read.new.depot in
+    let same : c.from_residual-in_err-edit.result ≡ Err stop.Memory = search rules in
+    subst (Acts c.args.request.now stood a b) (sym same) (no_memory c.args.request.now stood a b c.in_ok-map.ensures.reads stop.Memory refl)
 
-pub returns-in-Err-clause-crash : goal.returns-in-Err-clause-crash
-returns-in-Err-clause-crash g c =
+pub returns-in_err-tell_edit : goal.returns-in_err-tell_edit
+returns-in_err-tell_edit g c = λ stood.
     let a = g.D.Depot.disk c.args.depot.now in
-    let b = g.D.Depot.disk c.read_file.new.depot in
-    Leaves-reads (MayLeave c.args.request.now a) a b c.in-Ok.ensures.reads
+    let b = g.D.Depot.disk c.read.new.depot in
+    let same : c.from_residual-in_err-tell_edit.result ≡ Err stop.Memory = search rules in
+    subst (Acts c.args.request.now stood a b) (sym same) (no_memory c.args.request.now stood a b c.in_ok-map.ensures.reads stop.Memory refl)
 
-pub returns-then-is_empty-clause-crash : goal.returns-then-is_empty-clause-crash
-returns-then-is_empty-clause-crash g c =
+pub returns-then-is_empty : goal.returns-then-is_empty
+returns-then-is_empty g c = λ stood.
     let a = g.D.Depot.disk c.args.depot.now in
-    let b = g.D.Depot.disk c.read_file.new.depot in
-    Leaves-reads (MayLeave c.args.request.now a) a b c.in-Ok.ensures.reads
+    let b = g.D.Depot.disk c.read.new.depot in
+    let m = c.in_ok-map.map in
+    let e = c.in_ok-edit.edit in
+    let told = ap (λ n. look_summary n 0) c.payload.ensures in
+    idle_acts c.args.request.now c.requires.command stood a b m c.in_ok-map.ensures.tells c.in_ok-map.ensures.reads e
+    (broken_in m c.kind.result c.streams.result c.fields.result.now c.args.request.now.edit c.args.request.now.rules None c.kind.ensures c.streams.ensures c.fields.ensures c.in-None.ensures)
+    (c.in_ok-edit.ensures ∙ ap (λ es. effective (values es) c.args.request.now.edit) c.fields-2.ensures)
+    (g.met.D.Depot.lawful c.read.new.depot) c.requires.settled (is_none e (c.if-is_empty.ensures ∙ ap (λ (es : List EditItem). length es == 0) c.items.ensures.items))
+    c.in_ok-tell_edit.field-0 (c.in_ok-tell_edit.ensures.summary ∙ told) (c.in_ok-tell_edit.ensures.text ∙ ap done_line told)
 
-pub returns-then-is_empty-clause-acts : goal.returns-then-is_empty-clause-acts
-returns-then-is_empty-clause-acts g c = λ stood o h bytes.
-    let a = g.D.Depot.disk c.args.depot.now in
-    let b = g.D.Depot.disk c.read_file.new.depot in
-    idle_ends c.args.request.now c.requires.command a b c.in-Ok.map c.in-Ok-effective.edit c.in-Ok.ensures.reads c.in-Ok.ensures.file c.in-None.ensures c.in-Ok-effective.ensures stood o c.requires.settled h bytes (is_none c.in-Ok-effective.edit (c.if-is_empty.ensures ∙ ap (λ (es : List EditItem). length es == 0) c.items.ensures.items)) c.tell_idle.result c.tell_idle.ensures.summary c.tell_idle.ensures.text
-
-pub returns-then-is_empty-clause-again : goal.returns-then-is_empty-clause-again
-returns-then-is_empty-clause-again g c =
-    let a = g.D.Depot.disk c.args.depot.now in
-    let b = g.D.Depot.disk c.read_file.new.depot in
-    on_ok (Only (read_as b.slots) b) c.tell_idle.result (alone_only (bytes_of a.slots.main) b (g.met.D.Depot.lawful c.read_file.new.depot) (alone_on (bytes_of a.slots.main) a b c.in-Ok.ensures.reads c.requires.settled.alone))
-
-pub change-requires-clause-mapped : goal.change-requires-clause-mapped
-change-requires-clause-mapped g c = λ o h.
-    let a = g.D.Depot.disk c.args.depot.now in
-    let b = g.D.Depot.disk c.read_file.new.depot in
-    (c.in-Ok.ensures.file o (holds_back a b o c.in-Ok.ensures.reads h)).0
+pub change-requires-clause-read : goal.change-requires-clause-read
+change-requires-clause-read g c = still_read (g.D.Depot.disk c.args.depot.now) (g.D.Depot.disk c.read.new.depot) c.in_ok-map.map c.in_ok-map.ensures.reads c.in_ok-map.ensures.tells
 
 pub change-requires-clause-ready : goal.change-requires-clause-ready
 change-requires-clause-ready g c =
     let a = g.D.Depot.disk c.args.depot.now in
-    let b = g.D.Depot.disk c.read_file.new.depot in
-    ready c.args.request.now c.requires.command a b c.in-Ok.map c.in-Ok-effective.edit c.in-Ok.ensures.reads c.in-Ok.ensures.file c.in-None.ensures c.in-Ok-effective.ensures (is_some c.in-Ok-effective.edit (c.if-is_empty.ensures ∙ ap (λ (es : List EditItem). length es == 0) c.items.ensures.items))
+    let b = g.D.Depot.disk c.read.new.depot in
+    let m = c.in_ok-map.map in
+    let e = c.in_ok-edit.edit in
+    ready c.args.request.now c.requires.command false a b m c.in_ok-map.ensures.tells c.in_ok-map.ensures.reads e
+    (broken_in m c.kind.result c.streams.result c.fields.result.now c.args.request.now.edit c.args.request.now.rules None c.kind.ensures c.streams.ensures c.fields.ensures c.in-None.ensures)
+    (c.in_ok-edit.ensures ∙ ap (λ es. effective (values es) c.args.request.now.edit) c.fields-2.ensures)
+    (is_some e (c.if-is_empty.ensures ∙ ap (λ (es : List EditItem). length es == 0) c.items.ensures.items))
 
-pub returns-clause-acts : goal.returns-clause-acts
-returns-clause-acts g c = λ stood o h bytes.
+pub returns : goal.returns
+returns g c = λ stood.
     let a = g.D.Depot.disk c.args.depot.now in
-    let b = g.D.Depot.disk c.read_file.new.depot in
-    change_ends c.args.request.now c.requires.command a b c.in-Ok.map c.in-Ok-effective.edit c.in-Ok.ensures.reads c.in-Ok.ensures.file c.in-None.ensures c.in-Ok-effective.ensures (g.D.Depot.disk c.change.new.depot) stood o h bytes (is_some c.in-Ok-effective.edit (c.if-is_empty.ensures ∙ ap (λ (es : List EditItem). length es == 0) c.items.ensures.items)) c.change.result c.change.ensures.changes
-
-pub returns-clause-stops : goal.returns-clause-stops
-returns-clause-stops g c =
-    let a = g.D.Depot.disk c.args.depot.now in
-    let b = g.D.Depot.disk c.read_file.new.depot in
+    let b = g.D.Depot.disk c.read.new.depot in
     let d = g.D.Depot.disk c.change.new.depot in
-    at_err (ChangeStops c.in-Ok-effective.edit b d) (ActStops c.args.request.now a d) (change_stops c.args.request.now c.requires.command a b c.in-Ok.map c.in-Ok-effective.edit c.in-Ok.ensures.reads c.in-Ok.ensures.file c.in-None.ensures c.in-Ok-effective.ensures d) c.change.result c.change.ensures.stops
-
-pub returns-clause-leaves : goal.returns-clause-leaves
-returns-clause-leaves g c =
-    let a = g.D.Depot.disk c.args.depot.now in
-    let b = g.D.Depot.disk c.read_file.new.depot in
-    let d = g.D.Depot.disk c.change.new.depot in
-    at_err (ChangeLeaves c.in-Ok-effective.edit b d) (ActLeaves c.args.request.now a d) (change_leaves c.args.request.now c.requires.command a b c.in-Ok.map c.in-Ok-effective.edit c.in-Ok.ensures.reads c.in-Ok.ensures.file c.in-None.ensures c.in-Ok-effective.ensures d (is_some c.in-Ok-effective.edit (c.if-is_empty.ensures ∙ ap (λ (es : List EditItem). length es == 0) c.items.ensures.items))) c.change.result c.change.ensures.leaves
-
-pub returns-clause-crash : goal.returns-clause-crash
-returns-clause-crash g c =
-    let a = g.D.Depot.disk c.args.depot.now in
-    let b = g.D.Depot.disk c.read_file.new.depot in
-    change_crash c.args.request.now c.requires.command a b c.in-Ok.map c.in-Ok-effective.edit c.in-Ok.ensures.reads c.in-Ok.ensures.file c.in-None.ensures c.in-Ok-effective.ensures (g.D.Depot.disk c.change.new.depot) c.change.ensures.crash
+    let m = c.in_ok-map.map in
+    let e = c.in_ok-edit.edit in
+    change_acts c.args.request.now c.requires.command stood a b m c.in_ok-map.ensures.tells c.in_ok-map.ensures.reads e
+    (broken_in m c.kind.result c.streams.result c.fields.result.now c.args.request.now.edit c.args.request.now.rules None c.kind.ensures c.streams.ensures c.fields.ensures c.in-None.ensures)
+    (c.in_ok-edit.ensures ∙ ap (λ es. effective (values es) c.args.request.now.edit) c.fields-2.ensures)
+    d (is_some e (c.if-is_empty.ensures ∙ ap (λ (es : List EditItem). length es == 0) c.items.ensures.items)) c.change.result c.change.ensures

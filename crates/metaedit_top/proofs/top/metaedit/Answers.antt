@@ -5,7 +5,7 @@ use Rattle.part_tree.specs.declared.why.Why.{Why}
 use Rattle.metaedit_top.specs.declared.outcome.Stop.{Stop}
 use Rattle.metaedit_top.specs.declared.outcome.Stop.TheVariants as stop
 use Rattle.metaedit_top.specs.Run.{Because, Stops}
-use Rattle.metaedit_top.proofs.Tops.{may_by, done_by, faulted_by, because, same_done, same_fault, same_why, same_broken, same_large, not_absent, not_broken, not_large}
+use Rattle.metaedit_top.proofs.Tops.{may_by, done_by, fixed_by, faulted_by, because, same_done, same_fault, same_why, same_broken, same_large, never}
 use Rattle.metaedit_top.proofs.top.metaedit.Goals as goal
 
 pub returns-in-Ok-write_all-clause-done : goal.returns-in-Ok-write_all-clause-done
@@ -16,6 +16,10 @@ returns-in-Ok-write_all-clause-done g c = λ s is.
     let after = g.K.Sink.contents c.write_all.new.self in
     done_by c.args.words.now c.in-Ok.request a b c.in-Ok-run.finished c.in-Ok.ensures c.in-Ok-run.ensures.ends before after s (same_done c.in-Ok-run.finished.summary s is)
     (subst (λ (text : List ℕ). Appends before after text) c.as_slice.ensures c.in-Ok-write_all.ensures.ok)
+
+pub returns-in-Ok-write_all-clause-fixes : goal.returns-in-Ok-write_all-clause-fixes
+returns-in-Ok-write_all-clause-fixes g c = λ s is.
+    fixed_by c.args.words.now c.in-Ok.request c.in-Ok-run.finished.summary s c.in-Ok.ensures c.in-Ok-run.ensures.fixes (same_done c.in-Ok-run.finished.summary s is)
 
 pub returns-in-Ok-run-clause-out_fault : goal.returns-in-Ok-run-clause-out_fault
 returns-in-Ok-run-clause-out_fault g c = λ edited is.
@@ -44,18 +48,6 @@ returns-in-Err-RuleBroken-clause-any_moment g c = λ i h. may_by c.args.words.no
 pub returns-in-Err-TooLarge-clause-any_moment : goal.returns-in-Err-TooLarge-clause-any_moment
 returns-in-Err-TooLarge-clause-any_moment g c = λ i h. may_by c.args.words.now c.in-Ok.request (g.D.Depot.disk c.args.depot.now) i c.in-Ok.ensures (c.in-Err-TooLarge.ensures.crash i h)
 
-pub returns-in-Err-NoFile-clause-complete : goal.returns-in-Err-NoFile-clause-complete
-returns-in-Err-NoFile-clause-complete g c = λ tells q o is settles bytes accepts quiet whole.
-    not_absent c.args.words.now q c.in-Ok.request (g.D.Depot.disk c.args.depot.now) (g.D.Depot.disk c.run.new.depot) o c.in-Ok.ensures is tells settles bytes accepts (subst (λ (s : Stop). Stops c.in-Ok.request (g.D.Depot.disk c.args.depot.now) (g.D.Depot.disk c.run.new.depot) s) c.in-Err-NoFile.field-0-is c.in-Err-NoFile.ensures.stops)
-
-pub returns-in-Err-RuleBroken-clause-complete : goal.returns-in-Err-RuleBroken-clause-complete
-returns-in-Err-RuleBroken-clause-complete g c = λ tells q o is settles bytes accepts quiet whole.
-    not_broken c.args.words.now q c.in-Ok.request (g.D.Depot.disk c.args.depot.now) (g.D.Depot.disk c.run.new.depot) o c.in-Ok.ensures is tells settles bytes accepts c.in-Err-RuleBroken.broken (subst (λ (s : Stop). Stops c.in-Ok.request (g.D.Depot.disk c.args.depot.now) (g.D.Depot.disk c.run.new.depot) s) c.in-Err-RuleBroken.field-0-is c.in-Err-RuleBroken.ensures.stops)
-
-pub returns-in-Err-TooLarge-clause-complete : goal.returns-in-Err-TooLarge-clause-complete
-returns-in-Err-TooLarge-clause-complete g c = λ tells q o is settles bytes accepts quiet whole.
-    not_large c.args.words.now q c.in-Ok.request (g.D.Depot.disk c.args.depot.now) (g.D.Depot.disk c.run.new.depot) o c.in-Ok.ensures is tells settles bytes accepts c.in-Err-TooLarge.size c.in-Err-TooLarge.limit (subst (λ (s : Stop). Stops c.in-Ok.request (g.D.Depot.disk c.args.depot.now) (g.D.Depot.disk c.run.new.depot) s) c.in-Err-TooLarge.field-0-is c.in-Err-TooLarge.ensures.stops)
-
 pub returns-in-Err-NotSupported-clause-not_supported : goal.returns-in-Err-NotSupported-clause-not_supported
 returns-in-Err-NotSupported-clause-not_supported g c = λ why is.
     let a = g.D.Depot.disk c.args.depot.now in
@@ -78,3 +70,45 @@ returns-in-Err-TooLarge-clause-too_large g c = λ size limit is.
     subst (λ (n : ℕ). Because c.args.words.now a b (stop.TooLarge n limit)) same.0
     (subst (λ (n : ℕ). Because c.args.words.now a b (stop.TooLarge c.in-Err-TooLarge.size n)) same.1
     (subst (λ (s : Stop). Because c.args.words.now a b s) c.in-Err-TooLarge.field-0-is (because c.args.words.now c.in-Ok.request a b c.in-Err-TooLarge.field-0 c.in-Ok.ensures c.in-Err-TooLarge.ensures.stops c.in-Err-TooLarge.ensures.leaves)))
+
+pub returns-in-Err-Depot-clause-complete : goal.returns-in-Err-Depot-clause-complete
+returns-in-Err-Depot-clause-complete g c = λ all quiet whole.
+    let a = g.D.Depot.disk c.args.depot.now in
+    let b = g.D.Depot.disk c.run.new.depot in
+    never c.args.words.now c.in-Ok.request a b c.in-Ok.ensures all stop.Depot
+    (subst (λ (s : Stop). Stops c.in-Ok.request a b s) c.in-Err-Depot.field-0-is c.in-Err-Depot.ensures.stops) quiet
+
+pub returns-in-Err-NoFile-clause-complete : goal.returns-in-Err-NoFile-clause-complete
+returns-in-Err-NoFile-clause-complete g c = λ all quiet whole.
+    let a = g.D.Depot.disk c.args.depot.now in
+    let b = g.D.Depot.disk c.run.new.depot in
+    never c.args.words.now c.in-Ok.request a b c.in-Ok.ensures all stop.NoFile
+    (subst (λ (s : Stop). Stops c.in-Ok.request a b s) c.in-Err-NoFile.field-0-is c.in-Err-NoFile.ensures.stops) quiet
+
+pub returns-in-Err-Damaged-clause-complete : goal.returns-in-Err-Damaged-clause-complete
+returns-in-Err-Damaged-clause-complete g c = λ all quiet whole.
+    let a = g.D.Depot.disk c.args.depot.now in
+    let b = g.D.Depot.disk c.run.new.depot in
+    never c.args.words.now c.in-Ok.request a b c.in-Ok.ensures all (stop.Damaged c.in-Err-Damaged.at)
+    (subst (λ (s : Stop). Stops c.in-Ok.request a b s) c.in-Err-Damaged.field-0-is c.in-Err-Damaged.ensures.stops) quiet
+
+pub returns-in-Err-NotSupported-clause-complete : goal.returns-in-Err-NotSupported-clause-complete
+returns-in-Err-NotSupported-clause-complete g c = λ all quiet whole.
+    let a = g.D.Depot.disk c.args.depot.now in
+    let b = g.D.Depot.disk c.run.new.depot in
+    never c.args.words.now c.in-Ok.request a b c.in-Ok.ensures all (stop.NotSupported c.in-Err-NotSupported.why)
+    (subst (λ (s : Stop). Stops c.in-Ok.request a b s) c.in-Err-NotSupported.field-0-is c.in-Err-NotSupported.ensures.stops) quiet
+
+pub returns-in-Err-RuleBroken-clause-complete : goal.returns-in-Err-RuleBroken-clause-complete
+returns-in-Err-RuleBroken-clause-complete g c = λ all quiet whole.
+    let a = g.D.Depot.disk c.args.depot.now in
+    let b = g.D.Depot.disk c.run.new.depot in
+    never c.args.words.now c.in-Ok.request a b c.in-Ok.ensures all (stop.RuleBroken c.in-Err-RuleBroken.broken)
+    (subst (λ (s : Stop). Stops c.in-Ok.request a b s) c.in-Err-RuleBroken.field-0-is c.in-Err-RuleBroken.ensures.stops) quiet
+
+pub returns-in-Err-TooLarge-clause-complete : goal.returns-in-Err-TooLarge-clause-complete
+returns-in-Err-TooLarge-clause-complete g c = λ all quiet whole.
+    let a = g.D.Depot.disk c.args.depot.now in
+    let b = g.D.Depot.disk c.run.new.depot in
+    never c.args.words.now c.in-Ok.request a b c.in-Ok.ensures all (stop.TooLarge c.in-Err-TooLarge.size c.in-Err-TooLarge.limit)
+    (subst (λ (s : Stop). Stops c.in-Ok.request a b s) c.in-Err-TooLarge.field-0-is c.in-Err-TooLarge.ensures.stops) quiet
