@@ -115,7 +115,7 @@ module _ (m : Movie) (e : Changes) (joined : spell_all (atoms_in m.movie).chunks
   grown_makes more (replaced lead slot now true ∷ ps) h = h
   grown_makes more (replaced lead slot now false ∷ ps) h = grown_makes more ps h
 
-  whole_makes : AllMake (kid_cuts f) (relocated f) (whole_pieces m e)
+  pub whole_makes : AllMake (kid_cuts f) (relocated f) (whole_pieces m e)
   whole_makes = go (is_open m e)
     where
       made : AllMake (kid_cuts f) (relocated f) (pieces_of m e)

@@ -21,7 +21,8 @@ ghost use Rattle.mov_model.specs.Support.{IsHeld, Supported};
 ghost use Rattle.mov_model.specs.Pieces.{held};
 ghost use Rattle.mov_model.specs.Why.{why};
 ghost use Rattle.part_tree.specs.declared.field.EditItem.{EditItem};
-ghost use Rattle.mov_model.specs.Cuts.{TablesStay, all_cuts, unit_cuts};
+ghost use Rattle.mov_model.specs.Cuts.{TablesStay, unit_cuts};
+ghost use Rattle.mov_model.specs.Splices.{IsOneSplice};
 ghost use Rattle.mov_model.specs.Room.{Room, patches};
 ghost use Rattle.part_tree.specs.Order.{SoundPatches};
 ghost use Rattle.part_tree.specs.Patches.{laid};
@@ -63,11 +64,11 @@ pub fn refusals_are_exact()
     ensures { (b : List ℕ) → (why b ≡ None → Supported b) × (Supported b → why b ≡ None) }
 {}
 
-/// The new file is the old one with these spans replaced: the header of `moov`, the rows of its tables and the slots of
-/// units. The spans ascend and lie in the old file.
-pub fn new_is_spliced()
-    ensures spliced { (o : List ℕ) (e : List EditItem) → IsBytes o → Supported o → new_file o e ≡ splice o (all_cuts (movie_of o) (changes o e)) }
-    ensures ascend { (o : List ℕ) (e : List EditItem) → IsBytes o → Supported o → Ascend 0 (all_cuts (movie_of o) (changes o e)) (length o) }
+/// Where no table is widened the new file is the old one with the spans of one list replaced: the header of `moov`, the rows of its
+/// tables and the slots of units. The spans ascend, are disjoint and lie in the old file, and the ranges between them put each place
+/// where the tables' places are moved.
+pub fn new_is_one_splice()
+    ensures { (o : List ℕ) (e : List EditItem) → IsBytes o → Supported o → IsOneSplice o (changes o e) (new_file o e) }
 {}
 
 /// Where no table holds a place that moves, only the header of `moov` and the slots of units change.

@@ -1,3 +1,5 @@
+pub mod FirstMoov
+pub mod Astray
 pub mod Firsts
 pub mod Kept
 pub mod Heads

@@ -1,3 +1,5 @@
+pub mod Chunks
+pub mod Moov
 pub mod Holder
 pub mod Walked
 pub mod Tests

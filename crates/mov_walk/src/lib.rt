@@ -3,7 +3,9 @@
 //! never the essence.
 #![tactic(auto)]
 
+mod chunks;
 mod holder;
+mod moov;
 mod reading;
 mod refusals;
 mod tables;
@@ -11,6 +13,8 @@ mod tables;
 mod tests;
 mod walk;
 
+pub use chunks::astray_in;
 pub use holder::Holder;
+pub use moov::{begins, find_moov};
 pub use reading::Reading;
 pub use walk::{walk_file, walk_moov};

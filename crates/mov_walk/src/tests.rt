@@ -1,6 +1,6 @@
 // A movie worked by hand, and movies of which an atom is refused.
-use crate::{Reading, walk_file, walk_moov};
-use me_disk::{Depot, MemoryDepot, Room, Slot};
+use crate::{Reading, astray_in, begins, find_moov, walk_file, walk_moov};
+use me_disk::{Depot, DepotFault, HeaderWindow, MemoryDepot, Room, Slot};
 use part_tree::{ReadFault, Role, Span, Why};
 use std::alloc::{AllocError, Global};
 use std::test::Fail;
@@ -26,25 +26,28 @@ fn depot_of(alloc: Global, file: &[u8]) -> Result<MemoryDepot, AllocError> {
     }
 }
 
-// What is met of a file, and of the `moov` whose body is this.
-fn walk<D: Depot>(alloc: Global, depot: &mut D, moov: Span) -> Result<Reading, ReadFault> {
+// What is met of a movie.
+fn walk<D: Depot>(alloc: Global, depot: &mut D) -> Result<Reading, ReadFault> {
     let len = match depot.len(Slot::Main) {
         Err(_) => return Err(ReadFault::Depot),
         Ok(len) => len,
     };
+    match begins(depot, len) {
+        Err(_) => return Err(ReadFault::Depot),
+        Ok(false) => return Err(ReadFault::Why(Why::UnknownKind)),
+        Ok(true) => {}
+    }
     let mut reading = Reading::new(alloc);
     walk_file(&mut reading, depot, len)?;
-    if moov.at > len || moov.len > len - moov.at {
-        return Err(ReadFault::Why(Why::NoMoov));
-    }
-    walk_moov(&mut reading, depot, moov)?;
+    let moov = find_moov(depot, len)?;
+    walk_moov(&mut reading, depot, moov.body)?;
     Ok(reading)
 }
 
 #[test]
 fn meets_each_atom_in_order(rt: HostRuntime) -> Result<(), Fail> {
     let mut depot = depot_of(rt.alloc(), &MOVIE)?;
-    let reading = walk(rt.alloc(), &mut depot, Span { at: 20, len: 87 })?;
+    let reading = walk(rt.alloc(), &mut depot)?;
     let places = [0, 12, 107, 20, 28, 36, 44, 52, 72, 80, 88];
     assert_eq!(rt; reading.parts.len(), places.len());
     for (part, at) in reading.parts.iter().zip(&places) {
@@ -65,8 +68,9 @@ fn meets_each_atom_in_order(rt: HostRuntime) -> Result<(), Fail> {
 #[test]
 fn refuses_by_the_first_reason(rt: HostRuntime) -> Result<(), Fail> {
     // the place of four other bytes, these, and the refusal
-    let rows: [(usize, [u8; 4], Why); 10] = [
-        (4, *b"moof", Why::Fragments { at: 0 }),
+    let rows: [(usize, [u8; 4], Why); 11] = [
+        (4, *b"xtyp", Why::UnknownKind),
+        (111, *b"moof", Why::Fragments { at: 107 }),
         (16, *b"xoov", Why::NoMoov),
         (111, *b"moov", Why::TwoMoov),
         (76, *b"cmov", Why::Compressed),
@@ -86,11 +90,34 @@ fn refuses_by_the_first_reason(rt: HostRuntime) -> Result<(), Fail> {
             file[at + 3] = word[3];
         }
         let mut depot = depot_of(rt.alloc(), &file)?;
-        let fault = match walk(rt.alloc(), &mut depot, Span { at: 20, len: 87 }) {
+        let fault = match walk(rt.alloc(), &mut depot) {
             Ok(_) => None,
             Err(fault) => Some(fault),
         };
         assert_eq!(rt; fault, Some(ReadFault::Why(why)));
+    }
+    Ok(())
+}
+
+// The first chunk that stands in no `mdat`, of a file that is the body of a table. The essence stands from 16 to 24.
+fn astray<D: Depot>(depot: &mut D, wide: bool) -> Result<Option<u32>, DepotFault> {
+    let len = depot.len(Slot::Main)?;
+    let mut window = HeaderWindow::new();
+    let mdats = [Span { at: 16, len: 8 }];
+    astray_in(&mut window, depot, &mdats, wide, Span { at: 0, len })
+}
+
+#[test]
+fn finds_a_chunk_astray(rt: HostRuntime) -> Result<(), Fail> {
+    let rows: [(&[u8], bool, Option<u32>); 4] = [
+        (b"\0\0\0\0\0\0\0\x02\0\0\0\x10\0\0\0\x17", false, None),
+        (b"\0\0\0\0\0\0\0\x02\0\0\0\x10\0\0\0\x18", false, Some(2)),
+        (b"\0\0\0\0\0\0\0\x01\0\0\0\0\0\0\0\x10", true, None),
+        (b"\0\0\0\0\0\0\0\x01\0\0\0\0\0\0\0\x0F", true, Some(1)),
+    ];
+    for (body, wide, wanted) in rows {
+        let mut depot = depot_of(rt.alloc(), body)?;
+        assert_eq!(rt; astray(&mut depot, wide)?, wanted);
     }
     Ok(())
 }
