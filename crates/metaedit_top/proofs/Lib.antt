@@ -7,3 +7,4 @@ pub mod Changes
 pub mod Sets
 pub mod Looks
 pub mod FileWord
+pub mod ShownOnce
