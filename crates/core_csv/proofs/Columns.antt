@@ -1,5 +1,5 @@
 -- The columns of a header, one by one.
-use Rattle.std.proofs.Common.{◌≡◌, ℕ, suc, ◌+◌, ◌<◌, List, [], ◌∷◌, ◌++◌, length, get_or, drop, Bool, true, false, ◌||◌, Option, Some, None, Result, Ok, Err, refl, sym, ap, ◌∙◌, inl, inr, cond}
+use Rattle.std.proofs.Common.{◌≡◌, ℕ, suc, ◌+◌, ◌<◌, List, [], ◌∷◌, ◌++◌, length, get_or, drop, Bool, ◌||◌, Option, Some, None, Result, Ok, Err, refl, sym, ap, ◌∙◌, inl, inr, cond}
 use Rattle.std.specs.Prelude.{◌⊎◌, is_none}
 use Rattle.std.specs.Str.{bytes_eq}
 use Rattle.std.proofs.lemmas.List.{at_drop_more}
@@ -8,6 +8,7 @@ use Rattle.core_table.specs.Answers.{Answers, unless}
 use Rattle.core_table.specs.Sets.{has}
 use Rattle.core_table.specs.declared.fault.TableFault.{TableFault}
 use Rattle.core_table.specs.declared.fault.TableFault.TheVariants.{Memory}
+use Rattle.core_table.proofs.Fresh.{has-append}
 use Rattle.core_csv.specs.Table.{column_fault, header_fault, or_later}
 
 -- what a test that may stop has found
@@ -25,16 +26,6 @@ pub went_on : {T : Type 0} (f : Option TableFault) (x y : T) → Answers (unless
 went_on None x y h = refl
 went_on (Some g) x y (inl h) = absurd cc
 went_on (Some g) x y (inr h) = absurd cc
-
--- a name among more names
-pub has-append : (names : List (List ℕ)) (name other : List ℕ) → has (names ++ name ∷ []) other ≡ (bytes_eq other name || has names other)
-has-append [] name other = refl
-has-append (x ∷ names) name other = go (bytes_eq other x) (bytes_eq other name) (has-append names name other)
-  where
-    go : (t u : Bool) → has (names ++ name ∷ []) other ≡ (u || has names other) → (t || has (names ++ name ∷ []) other) ≡ (u || (t || has names other))
-    go true true e = refl
-    go true false e = refl
-    go false u e = e
 
 -- two lists of the same names have the same fault
 pub same_fault : (n : ℕ) (a b : List (List ℕ)) (name : List ℕ) → has a name ≡ has b name → column_fault n a name ≡ column_fault n b name

@@ -1,8 +1,8 @@
 -- What is written for a file and its fields is read as an edit without an effect on them.
-use Rattle.std.proofs.Common.{◌≡◌, ℕ, suc, ◌+◌, ◌-◌, ◌<◌, ◌≤◌, List, [], ◌∷◌, ◌++◌, length, drop, map, filter, Bool, true, false, ◌||◌, ◌&&◌, ◌==◌, not, Option, Some, None, Result, Ok, Err, refl, sym, ap, ◌∙◌, cond, arith, append-nil, ne_eqb, eq-eqb}
+use Rattle.std.proofs.Common.{◌≡◌, ℕ, suc, ◌+◌, ◌-◌, ◌≤◌, List, [], ◌∷◌, ◌++◌, length, drop, map, filter, Bool, true, false, ◌||◌, ◌&&◌, ◌==◌, not, Option, Some, None, Result, Ok, Err, refl, sym, ap, ◌∙◌, cond, arith, append-nil, ne_eqb, eq-eqb}
 use Rattle.std.specs.Prelude.{codes, if◌then◌else◌, is_none, is_some, nat_lt}
 use Rattle.std.specs.List.{list_all}
-use Rattle.std.specs.Str.{bytes_eq, is_utf8}
+use Rattle.std.specs.Str.{is_utf8}
 use Rattle.std.proofs.lemmas.Bool.{cond-true, false≢true, le-ltb}
 use Rattle.std.proofs.lemmas.Str.{is_utf8-from_IsUtf8}
 use Rattle.csv.specs.Machine.{next_record}
@@ -38,7 +38,7 @@ use Rattle.core_table.proofs.Names.{text_named}
 use Rattle.core_csv.specs.Row.{AreBytes, labels, row, texts}
 use Rattle.core_csv.specs.Table.{cell_change, column_fault, header_fault, is_name, is_removal, is_row_of, item, or_later, read, read_rows, row_fault, row_items, set_to, table, take_row}
 use Rattle.core_csv.specs.declared.found.Found.{Found}
-use Rattle.core_csv.proofs.Columns.{has-append}
+use Rattle.core_table.proofs.Fresh.{Before, more_before, new_name}
 use Rattle.core_csv.proofs.Readings.{records_step}
 
 -- ---- a name of which a table shows a text
@@ -86,35 +86,6 @@ label_named f name is shows = text_named name (label name) (named f name is show
 
 -- ---- the header
 
--- the names so far stand before this place
-abbrev Before : ℕ → List (List ℕ) → Type 0
-Before low earlier = (t : List ℕ) → has earlier t ≡ true → (g : FieldName) → field_name t ≡ Some g → field_place g < low
-
-abbrev some_or : FieldName → Option FieldName → FieldName
-some_or d None = d
-some_or d (Some x) = x
-
-same_field : (a b : FieldName) → Some a ≡ Some b → a ≡ b
-same_field a b e = ap (some_or a) e
-
-more_before : (low : ℕ) (earlier : List (List ℕ)) (name : FieldName) → low ≤ field_place name → field_name (label name) ≡ Some name → Before low earlier
-    → Before (suc (field_place name)) (earlier ++ label name ∷ [])
-more_before low earlier name le is before t there g named = go (bytes_eq t (label name)) (has earlier t) refl refl (sym (has-append earlier (label name) t) ∙ there)
-  where
-    go : (u v : Bool) → bytes_eq t (label name) ≡ u → has earlier t ≡ v → (u || v) ≡ true → field_place g < suc (field_place name)
-    go true v e e2 h =
-        let same : g ≡ name = same_field g name (sym named ∙ ap field_name (bytes_same t (label name) e) ∙ is) in
-        omega (arith, ap field_place same)
-    go false true e e2 h = omega (arith, before t e2 g named, le)
-    go false false e e2 h = absurd cc
-
-new_name : (low : ℕ) (earlier : List (List ℕ)) (name : FieldName) → low ≤ field_place name → field_name (label name) ≡ Some name → Before low earlier → has earlier (label name) ≡ false
-new_name low earlier name le is before = go (has earlier (label name)) refl
-  where
-    go : (u : Bool) → has earlier (label name) ≡ u → u ≡ false
-    go false e = refl
-    go true e = absurd (omega (arith, before (label name) e name is, le))
-
 clean_column : (n : ℕ) (earlier : List (List ℕ)) (name : FieldName) → field_name (label name) ≡ Some name → has earlier (label name) ≡ false → column_fault n earlier (label name) ≡ None
 clean_column n earlier name is new =
     ap (λ (o : Option FieldName). cond (is_none o) (Some (UnknownColumn n)) (cond (has earlier (label name)) (Some (TwiceColumn n)) None)) is
@@ -134,8 +105,8 @@ header_clean f (e ∷ es) low n earlier asc before =
     go false shows same more = same earlier (λ t there g named. omega (arith, before t there g named, asc.0))
     go true shows same more =
         let is = label_named f e.name asc.1 shows in
-        let rest = more (earlier ++ label e.name ∷ []) (more_before low earlier e.name asc.0 is before) in
-        ap (λ (c : Option TableFault). or_later c (header_fault (suc n) (earlier ++ label e.name ∷ []) (labels f (names es)))) (clean_column n earlier e.name is (new_name low earlier e.name asc.0 is before)) ∙ rest
+        let rest = more (earlier ++ label e.name ∷ []) (more_before low earlier e.name (label e.name) asc.0 is before) in
+        ap (λ (c : Option TableFault). or_later c (header_fault (suc n) (earlier ++ label e.name ∷ []) (labels f (names es)))) (clean_column n earlier e.name is (new_name low earlier e.name (label e.name) asc.0 is before)) ∙ rest
 
 -- ---- the cells
 

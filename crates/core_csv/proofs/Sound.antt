@@ -18,7 +18,7 @@ use Rattle.core_table.specs.declared.fault.TableFault.{TableFault}
 use Rattle.core_table.specs.declared.fault.TableFault.TheVariants.{UnknownColumn, TwiceColumn}
 use Rattle.core_table.proofs.Names.{named_text, one_text}
 use Rattle.core_csv.specs.Table.{cell_change, column_fault, header_fault, is_removal, item, or_later, row_items, set_to}
-use Rattle.core_csv.proofs.Columns.{has-append}
+use Rattle.core_table.proofs.Fresh.{has-append}
 
 abbrev ok_or : {T : Type 0} → T → Result T TableFault → T
 ok_or d (Ok x) = x

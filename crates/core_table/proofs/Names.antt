@@ -1,5 +1,5 @@
 -- The field that a text names has that text, and the other way round.
-use Rattle.std.proofs.Common.{◌≡◌, ℕ, zero, suc, ◌+◌, ◌^◌, ◌<◌, ◌≤◌, List, [], ◌∷◌, ◌++◌, length, get_or, take, drop, Bool, true, false, ◌&&◌, ◌||◌, not, ◌==◌, Option, Some, None, refl, sym, ap, ◌∙◌, subst, cond, arith, rules, inl, inr, ne_eqb}
+use Rattle.std.proofs.Common.{◌≡◌, ℕ, zero, suc, ◌^◌, ◌<◌, List, [], ◌∷◌, ◌++◌, length, get_or, take, drop, Bool, true, false, ◌&&◌, ◌||◌, not, ◌==◌, Option, Some, None, refl, sym, ap, ◌∙◌, subst, cond, arith, rules, inl, inr, ne_eqb}
 use Rattle.std.specs.Prelude.{◌⊎◌, codes, decimal, find, nat_lt, option_map}
 use Rattle.std.specs.Char.{is_ascii_digit}
 use Rattle.std.specs.List.{AllByRecursion, list_all, list_any}
@@ -16,7 +16,7 @@ use Rattle.part_tree.specs.declared.names.FourCc.{FourCc}
 use Rattle.part_tree.specs.Keys.{is_key_name}
 use Rattle.part_tree.specs.Letters.{four}
 use Rattle.part_tree.specs.Names.{field_names, info_ids, is_field_name, is_user_type, whole_ids}
-use Rattle.part_tree.proofs.Places.{bytes_refl, bytes_same}
+use Rattle.part_tree.proofs.Places.{bytes_same}
 use Rattle.field_model.specs.Numbers.{is_numeral, number_below}
 use Rattle.field_model.specs.Texts.{bext_text, field_name, is_text, key_name, name_text, or_name, stream_name, text_of, user_name, user_type, whole_text}
 

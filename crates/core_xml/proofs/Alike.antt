@@ -15,7 +15,7 @@ use Rattle.core_xml.specs.declared.line.FieldLine.{FieldLine}
 use Rattle.core_xml.specs.declared.place.Place.{Place}
 use Rattle.core_xml.specs.declared.place.Place.TheVariants as at
 use Rattle.core_xml.specs.declared.reading.Reading.{Reading}
-use Rattle.core_xml.proofs.Steps.{has-append}
+use Rattle.core_table.proofs.Fresh.{has-append}
 
 -- these names for those
 abbrev with : Reading → List (List ℕ) → Reading

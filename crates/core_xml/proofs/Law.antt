@@ -32,7 +32,7 @@ use Rattle.core_xml.specs.declared.place.Place.TheVariants as at
 use Rattle.core_xml.specs.declared.reading.Reading.{Reading}
 use Rattle.core_xml.proofs.Exported.{idle, named, shown_text, some_text}
 use Rattle.core_xml.proofs.Forms.{field_is_line, field_read, field_utf8, file_is_line, file_read, file_utf8}
-use Rattle.core_xml.proofs.Fresh.{Before, more_before, new_name}
+use Rattle.core_table.proofs.Fresh.{Before, more_before, new_name}
 use Rattle.core_xml.proofs.Labels.{label_bytes}
 use Rattle.core_xml.proofs.Split.{IsLine, joined, joined-append, split}
 

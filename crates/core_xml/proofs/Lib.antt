@@ -1,7 +1,6 @@
 pub mod Alike
 pub mod Exported
 pub mod Forms
-pub mod Fresh
 pub mod Labels
 pub mod Law
 pub mod Marks

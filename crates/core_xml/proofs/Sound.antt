@@ -24,7 +24,7 @@ use Rattle.core_xml.specs.declared.line.FieldLine.{FieldLine}
 use Rattle.core_xml.specs.declared.place.Place.{Place}
 use Rattle.core_xml.specs.declared.place.Place.TheVariants as at
 use Rattle.core_xml.specs.declared.reading.Reading.{Reading}
-use Rattle.core_xml.proofs.Steps.{has-append}
+use Rattle.core_table.proofs.Fresh.{has-append}
 
 -- each of the items has a name that is among these
 abbrev Among : List (List ℕ) → List EditItem → Type 0

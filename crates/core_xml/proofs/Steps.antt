@@ -7,19 +7,10 @@ use Rattle.core_table.specs.Answers.{Answers}
 use Rattle.core_table.specs.Sets.{has}
 use Rattle.core_table.specs.declared.fault.TableFault.{TableFault}
 use Rattle.core_table.specs.declared.fault.TableFault.TheVariants.{Line, Memory}
+use Rattle.core_table.proofs.Fresh.{has-append}
 use Rattle.core_xml.specs.Table.{IsLike, LeadsTo, item, kept, take}
 use Rattle.core_xml.specs.declared.line.FieldLine.{FieldLine}
 use Rattle.core_xml.specs.declared.reading.Reading.{Reading}
-
--- a name among more names
-pub has-append : (names : List (List ℕ)) (name other : List ℕ) → has (names ++ name ∷ []) other ≡ (bytes_eq other name || has names other)
-has-append [] name other = refl
-has-append (x ∷ names) name other = go (bytes_eq other x) (bytes_eq other name) (has-append names name other)
-  where
-    go : (t u : Bool) → has (names ++ name ∷ []) other ≡ (u || has names other) → (t || has (names ++ name ∷ []) other) ≡ (u || (t || has names other))
-    go true true e = refl
-    go true false e = refl
-    go false u e = e
 
 pub same : (a : Reading) → IsLike a a
 same a = record { fields = refl; names = λ t. refl }

@@ -1,5 +1,5 @@
 // The head of an index chunk: the 24 bytes before its entries.
-ghost use Rattle.std.specs.Prelude.{◌≡◌, ◌≤◌, ℕ, List, length, take};
+ghost use Rattle.std.specs.Prelude.{◌≡◌, ◌+◌, ◌*◌, ◌≤◌, ℕ, List, IfOk, false, length, take};
 ghost use Rattle.opendml_index.specs.Heads.{IsFront, ReadsHead, ReadsHeadOf, ReadsKind, ReadsKindOf, kind_wanted, longs, standard, two_fields};
 
 use crate::numbers::{four_in, le32_in, le64_in};
@@ -103,7 +103,9 @@ fn kind_of(first: &[u8; 24], standard: bool) -> Option<IndexKind>
 /// one is looked for. `Wrong` is tested first, and then whether the entries are there.
 pub fn head_in(first: &[u8; 24], len: u64, standard: bool) -> Result<IndexHead, HeadFault>
     requires { 24 ≤ len }
-    ensures { (body : List ℕ) → first.now ≡ take 24 body → len ≡ length body → ReadsHeadOf (kind_wanted standard) body result }
+    ensures head { (body : List ℕ) → first.now ≡ take 24 body → len ≡ length body → ReadsHeadOf (kind_wanted standard) body result }
+    ensures room { IfOk result (λ head. 24 + 4 * head.longs * head.used ≤ len) }
+    ensures longs { IfOk result (λ head. head.standard ≡ false → head.longs ≡ 4) }
 {
     let Some(kind) = kind_of(first, standard) else {
         return Err(HeadFault::Wrong);

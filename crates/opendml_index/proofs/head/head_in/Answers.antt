@@ -3,8 +3,8 @@ use Rattle.opendml_index.specs.Heads.{OfKind, IsFront, kind_wanted}
 use Rattle.opendml_index.proofs.Front.{of_front, front_of, head_is, is_wanted, header_true, entries_false, entries_true, no_entries, all_there}
 use Rattle.opendml_index.proofs.head.head_in.Goals as goal
 
-pub returns-then-len-from : goal.returns-then-len-from
-returns-then-len-from c body same len =
+pub returns-then-len-from-clause-head : goal.returns-then-len-from-clause-head
+returns-then-len-from-clause-head c body same len =
     let kind = c.in-Some.kind in
     let of = of_front body kind (subst (λ (x : List ℕ). OfKind x kind) same c.in-Some.ensures.0) in
     let front = front_of body kind c.head_of-head.result (subst (λ (x : List ℕ). IsFront x kind c.head_of-head.result) same c.head_of-head.ensures) in
@@ -12,8 +12,8 @@ returns-then-len-from c body same len =
     let long : 24 ≤ length body = omega arith in
     no_entries (kind_wanted c.args.standard) body (header_true body long) (is_wanted c.args.standard c.args.first.now body same c.in-Some.ensures.1) (entries_false body c.head_of-head.result c.from.result c.from-2.result head c.from.ensures c.from-2.ensures long (omega arith))
 
-pub returns : goal.returns
-returns c body same len =
+pub returns-clause-head : goal.returns-clause-head
+returns-clause-head c body same len =
     let kind = c.in-Some.kind in
     let of = of_front body kind (subst (λ (x : List ℕ). OfKind x kind) same c.in-Some.ensures.0) in
     let front = front_of body kind c.head_of-head.result (subst (λ (x : List ℕ). IsFront x kind c.head_of-head.result) same c.head_of-head.ensures) in

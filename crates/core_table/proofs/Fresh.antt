@@ -1,4 +1,4 @@
--- The names of fields in field order are new ones, one after the other.
+-- Names that are added one after the other: those of fields in field order are new ones.
 use Rattle.std.proofs.Common.{◌≡◌, ℕ, suc, ◌<◌, ◌≤◌, List, [], ◌∷◌, ◌++◌, Bool, true, false, ◌||◌, Some, refl, sym, ap, ◌∙◌, arith}
 use Rattle.std.specs.Prelude.{Option, None}
 use Rattle.std.specs.Str.{bytes_eq}
@@ -7,7 +7,16 @@ use Rattle.part_tree.specs.Names.{field_place}
 use Rattle.part_tree.proofs.Places.{bytes_same}
 use Rattle.field_model.specs.Texts.{field_name}
 use Rattle.core_table.specs.Sets.{has}
-use Rattle.core_xml.proofs.Steps.{has-append}
+
+-- a name among more names
+pub has-append : (names : List (List ℕ)) (name other : List ℕ) → has (names ++ name ∷ []) other ≡ (bytes_eq other name || has names other)
+has-append [] name other = refl
+has-append (x ∷ names) name other = go (bytes_eq other x) (bytes_eq other name) (has-append names name other)
+  where
+    go : (t u : Bool) → has (names ++ name ∷ []) other ≡ (u || has names other) → (t || has (names ++ name ∷ []) other) ≡ (u || (t || has names other))
+    go true true e = refl
+    go true false e = refl
+    go false u e = e
 
 -- the names so far stand before this place
 abbrev pub Before : ℕ → List (List ℕ) → Type 0
