@@ -1,3 +1,4 @@
+pub mod Grown
 pub mod FirstMoov
 pub mod Astray
 pub mod Firsts

@@ -6,15 +6,18 @@
 mod chunks;
 mod holder;
 mod moov;
+mod range;
 mod reading;
 mod refusals;
 mod tables;
 #[cfg(test)]
 mod tests;
+mod texts;
 mod walk;
 
 pub use chunks::astray_in;
 pub use holder::Holder;
 pub use moov::{begins, find_moov};
 pub use reading::Reading;
+pub use texts::take_user;
 pub use walk::{walk_file, walk_moov};

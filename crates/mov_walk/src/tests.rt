@@ -1,7 +1,7 @@
 // A movie worked by hand, and movies of which an atom is refused.
-use crate::{Reading, astray_in, begins, find_moov, walk_file, walk_moov};
+use crate::{Reading, astray_in, begins, find_moov, take_user, walk_file, walk_moov};
 use me_disk::{Depot, DepotFault, HeaderWindow, MemoryDepot, Room, Slot};
-use part_tree::{ReadFault, Role, Span, Why};
+use part_tree::{FieldName, Fields, FourCc, ReadFault, Role, Span, Why};
 use std::alloc::{AllocError, Global};
 use std::test::Fail;
 
@@ -119,5 +119,33 @@ fn finds_a_chunk_astray(rt: HostRuntime) -> Result<(), Fail> {
         let mut depot = depot_of(rt.alloc(), body)?;
         assert_eq!(rt; astray(&mut depot, wide)?, wanted);
     }
+    Ok(())
+}
+
+// The fields of user data, of a file that is its body.
+fn fields_of<D: Depot>(alloc: Global, depot: &mut D) -> Result<Fields, ReadFault> {
+    let len = match depot.len(Slot::Main) {
+        Err(_) => return Err(ReadFault::Depot),
+        Ok(len) => len,
+    };
+    let mut fields = Fields::new(alloc);
+    take_user(&mut fields, alloc, depot, Span { at: 0, len })?;
+    Ok(fields)
+}
+
+#[test]
+fn reads_texts_of_user_data(rt: HostRuntime) -> Result<(), Fail> {
+    // two texts in one item, one in another, an atom of another type, and an item that no texts fill
+    let body =
+        *b"\0\0\0\x13\xA9nam\0\x02\x15\xC7Hi\0\x01\0\x05!\0\0\0\x0D\xA9nam\0\x01\0\0?\0\0\0\x0Cabcd\0\0\0\0\0\0\0\x0B\xA9day\0\0\0";
+    let mut depot = depot_of(rt.alloc(), &body)?;
+    let fields = fields_of(rt.alloc(), &mut depot)?;
+    let texts = fields.get(&FieldName::User(FourCc(*b"\xA9nam")));
+    assert_eq!(rt; texts.len(), 3);
+    assert_eq!(rt; texts[0].lang, 0x15C7);
+    assert_eq!(rt; texts[0].raw.as_slice(), b"Hi".as_slice());
+    assert_eq!(rt; texts[1].lang, 5);
+    assert_eq!(rt; texts[2].raw.as_slice(), b"?".as_slice());
+    assert_eq!(rt; fields.get(&FieldName::User(FourCc(*b"\xA9day"))).len(), 0);
     Ok(())
 }
