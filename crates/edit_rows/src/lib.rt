@@ -22,5 +22,5 @@ pub use sparse::{
 };
 pub use stops::{
     NO_EDIT, RECOVER, calls_of, is_done_within, is_recovered, pick_of, plain, stop, stopped,
-    survives, survives_twice,
+    survives, survives_twice, tells_the_fault,
 };

@@ -6,7 +6,7 @@ ghost use Rattle.metaedit_top.specs.Run.{MayStandBy};
 
 use crate::files::PLAIN;
 use crate::runs::{depot_of, holds, run_told};
-use me_disk::{MemoryDepot, Pick};
+use me_disk::{FailAt, MemoryDepot, Pick};
 use metaedit_top::{Outcome, Summary};
 use part_tree::NoMemory;
 use std::alloc::Global;
@@ -119,4 +119,12 @@ pub fn calls_of(alloc: Global, texts: &[&str]) -> Result<u64, NoMemory>
         }
     }
     Ok(100)
+}
+
+/// Whether a run on the plain file, of which this call fails, tells a device fault.
+pub fn tells_the_fault(alloc: Global, texts: &[&str], call: u64) -> Result<bool, NoMemory> {
+    let failing = FailAt { call, done: false };
+    let mut depot = depot_of(alloc, Some(PLAIN), None, &[failing])?;
+    let ran = run_told(alloc, texts, &mut depot)?;
+    Ok(ran.outcome == Outcome::DepotFault { faults: 1 })
 }

@@ -9,7 +9,7 @@ use crate::sparse::{
     FULL_WIDENED, HELLO, HI, ROOMY_WIDENED, WIDE_SOUND, five_gigabytes, full_wave, has_len,
     narrow_wave, roomy_wave, shows,
 };
-use crate::stops::{NO_EDIT, RECOVER, calls_of, plain, survives, survives_twice};
+use crate::stops::{NO_EDIT, RECOVER, calls_of, plain, survives, survives_twice, tells_the_fault};
 use me_disk::FailAt;
 use metaedit_top::{Outcome, Summary, UsageFault, Why};
 use part_tree::{BextField, Broken, FieldName, FourCc};
@@ -328,6 +328,23 @@ fn a_device_that_fails_leaves_the_file(rt: HostRuntime) -> Result<(), Fail> {
     assert!(rt; ran.out.written().is_empty());
     assert!(rt; holds(&depot, Some(PLAIN), None));
     Ok(())
+}
+
+// Whatever call fails, the run tells a device fault, and no want of memory.
+fn check_faults(rt: &(impl Abort + AllocGlobal), texts: &[&str]) -> Result<(), Fail> {
+    let calls = calls_of(rt.alloc(), texts)?;
+    assert!(rt; 3 < calls);
+    for call in 0..calls {
+        assert!(rt; tells_the_fault(rt.alloc(), texts, call + 1)?);
+    }
+    Ok(())
+}
+
+#[test]
+fn each_call_that_fails_is_told(rt: HostRuntime) -> Result<(), Fail> {
+    check_faults(&rt, TITLE)?;
+    check_faults(&rt, &["md5", "f.wav"])?;
+    check_faults(&rt, &["show", "f.wav"])
 }
 
 #[test]
