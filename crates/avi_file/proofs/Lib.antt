@@ -6,3 +6,7 @@ pub mod Turned
 pub mod Formed
 pub mod Listed
 pub mod Fronts
+pub mod Held
+pub mod Lined
+pub mod Streamed
+pub mod Placing
