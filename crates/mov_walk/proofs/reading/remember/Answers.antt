@@ -1,6 +1,0 @@
-use Rattle.std.proofs.Common.{rules}
-use Rattle.mov_walk.proofs.Kept.{kept}
-use Rattle.mov_walk.proofs.reading.remember.Goals as goal
-
-pub returns-clause-remembers : goal.returns-clause-remembers
-returns-clause-remembers c = λ chunk before st knows. kept c.args.holder chunk c.args.atom.now before c.args.reading.now _ st knows (search rules)
