@@ -21,7 +21,7 @@ use Rattle.container_model.specs.Walk.{Step, along, body_at, chunk_at, end_at, w
 use Rattle.container_model.specs.Windows.{window}
 use Rattle.mov_model.specs.Atoms.{Place, dinf, either, file, format, mdia, minf, moov, opens, stbl, trak, user_data, when}
 use Rattle.container_model.specs.Atoms.{is_listed}
-use Rattle.mov_model.specs.Map.{essence_at, inner_parts, kid_parts, opened_parts, part, role_in, run_parts, with_inner}
+use Rattle.mov_model.specs.Map.{essence_at, file_parts, inner_parts, kid_parts, opened_parts, part, role_in, run_parts, user_parts, with_inner}
 use Rattle.mov_model.specs.Why.{Test, atom_tests, end_tests, met_user, moov_id, moov_tests, step_tests, tests_from, track_tests}
 use Rattle.container_model.specs.Tests.{first}
 use Rattle.mov_model.specs.Reading.{atoms_met, inside_steps, kid_steps, row as steps}
@@ -269,7 +269,9 @@ some_told d q at c b k place body =
     in
     let r = chunks atom_front inside c.body in
     let near : body_at at c + 0 ≡ body_at at c = omega arith in
-    ap (λ (i : ℕ). record { steps = along (walk format d q) i r.chunks ++ end_at q (body_at at c + length (spell_all r.chunks)) r.stop ∷ []; parts = run_parts (with_inner (inner_parts d) q) (body_at at c) r }) near
+    let far : 0 + length (spell_all r.chunks) ≡ length (spell_all r.chunks) = omega arith in
+    ap (λ (i : ℕ). record { steps = along (walk format d q) (body_at at c + 0) r.chunks ++ end_at q (body_at at c + i) r.stop ∷ []; parts = run_parts (with_inner (inner_parts d) q) (body_at at c) r }) far
+    ∙ ap (λ (i : ℕ). record { steps = along (walk format d q) i r.chunks ++ end_at q (body_at at c + length (spell_all r.chunks)) r.stop ∷ []; parts = run_parts (with_inner (inner_parts d) q) (body_at at c) r }) near
     ∙ ap (λ (x : Run). run_told d q (body_at at c) x) run
     ∙ ap (λ (i : ℕ). run_told d q i (row inside b k.body.at (k.body.at + k.body.len))) place
 
@@ -380,16 +382,19 @@ user_told seen at c b k place body =
     let run : chunks atom_front user c.body ≡ row user b k.body.at (k.body.at + k.body.len) =
     ap (chunks atom_front user) (body ∙ ap (λ (n : ℕ). take n (drop k.body.at b)) (omega arith))
     in
-    ap (both (atom_told seen moov at c)) (
-      flat_told user_data (body_at at c) (chunks atom_front user c.body) ∙ ap (run_told 0 user_data (body_at at c)) run
-      ∙ ap (λ (i : ℕ). run_told 0 user_data i (row user b k.body.at (k.body.at + k.body.len))) place,
-    )
+    let inner : record { steps = steps user_data (body_at at c) (udta.opening c).chunks ++ end_at user_data (body_at at c + length (spell_all (udta.opening c).chunks)) (udta.opening c).stop ∷ []; parts = user_parts at c } ≡ told_in 0 user_data user b k.body.at (k.body.at + k.body.len) =
+    flat_told user_data (body_at at c) (chunks atom_front user c.body) ∙ ap (run_told 0 user_data (body_at at c)) run
+    ∙ ap (λ (i : ℕ). run_told 0 user_data i (row user b k.body.at (k.body.at + k.body.len))) place
+    in
+    ap (both (atom_told seen moov at c)) inner
 
 pub file_are : (b : List ℕ) (len : ℕ) → length b ≡ len → file_told b ≡ told_in 0 file top b 0 (0 + len)
 file_are b len is =
     let whole : b ≡ window b 0 (0 + len) = sym (ap (λ (n : ℕ). take n b) (omega (arith, is)) ∙ take_all (length b) b (omega arith)) in
     let run : top_run b ≡ row top b 0 (0 + len) = ap (chunks atom_front top) whole in
-    flat_told file 0 (top_run b) ∙ ap (run_told 0 file 0) run
+    let far : length (spell_all (top_run b).chunks) ≡ 0 + length (spell_all (top_run b).chunks) = omega arith in
+    ap (λ (i : ℕ). record { steps = steps file 0 (top_run b).chunks ++ end_at file i (top_run b).stop ∷ []; parts = file_parts (top_run b) }) far
+    ∙ flat_told file 0 (top_run b) ∙ ap (run_told 0 file 0) run
 
 back_after : (ss before : List (Step Place)) → back ss before ≡ after before ss
 back_after [] before = refl

@@ -168,7 +168,7 @@ pub fn remember(reading: &mut Reading, holder: Holder, atom: &AtomAt) -> Result<
     ensures few { OnOk result (Few reading.new) }
     ensures remembers { (c : Chunk) (before : List (Step Place)) → Stands c atom.now → Knows reading.old before
         → OnOk result (Remembers before (chunk_at (place_of holder) atom.now.at c) (part (role_by (place_of holder) reading.old.has_user c) atom.now.at c ∷ [])
-            reading.old reading.new) }
+        reading.old reading.new) }
 {
     let part = Part {
         id: atom.kind,

@@ -193,7 +193,7 @@ fn walk_kid<D: Depot>(reading: &mut Reading, depot: &mut D, atom: &AtomAt) -> Re
     ensures walks { (b : List ℕ) (before : List (Step Place)) → Holds (D.disk depot.old) b
         → atom.now.at + length (spell (atom_in b atom.now)) ≡ atom.now.next → Knows reading.old before
         → Walks before (kid_told reading.old.has_user (not reading.old.has_user && bytes_eq atom.now.kind.0 (codes "udta")) atom.now.at
-            (atom_in b atom.now)) reading.old reading.new result }
+        (atom_in b atom.now)) reading.old reading.new result }
     ensures few { OnOk result (Few reading.new) }
     ensures reads { ReadsOnly (D.disk depot.old) (D.disk depot.new) }
     ensures cause { result ≡ Err ReadFault.Depot → Rose (D.disk depot.old).faults (D.disk depot.new).faults }

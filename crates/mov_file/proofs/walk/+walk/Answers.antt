@@ -1,4 +1,4 @@
-use Rattle.std.proofs.Common.{arith, refl, sym, ap, subst, ◌≡◌, ◌∙◌, ◌+◌, ◌-◌, ◌∷◌, ◌++◌, [], ℕ, List, length}
+use Rattle.std.proofs.Common.{arith, refl, sym, ap, subst, ◌≡◌, ◌∙◌, ◌+◌, ◌-◌, ◌∷◌, ℕ, length}
 use Rattle.std.specs.declared.option.Option.TheVariants.{Some, None}
 use Rattle.std.specs.declared.result.Result.TheVariants.{Err}
 use Rattle.me_disk.proofs.Holds.{holds_on}
@@ -6,15 +6,16 @@ use Rattle.me_disk.proofs.Runs.{ReadsOnly-trans}
 use Rattle.container_model.specs.Chunk.{bad_header, ends, passes, spell}
 use Rattle.container_model.specs.Walk.{chunk_at, end_at}
 use Rattle.container_model.specs.Windows.{window}
-use Rattle.container_model.proofs.Windows.{length_slice}
+use Rattle.container_model.proofs.Windows.{length-window, length_slice}
+use Rattle.part_tree.specs.Parts.{rest_parts}
 use Rattle.qt_atoms.specs.Walk.{InOrder, Stepped, StuckThere, atom_in, level_of}
 use Rattle.qt_atoms.specs.declared.header.Parent.{Parent}
 use Rattle.qt_atoms.specs.declared.walker.AtomFault.TheVariants.{SizeSmall, Truncated}
 use Rattle.part_tree.specs.declared.why.ReadFault.TheVariants as fault
 use Rattle.part_tree.specs.declared.why.Why.TheVariants as why
 use Rattle.mov_file.specs.Holder.{level_in, place_of}
-use Rattle.mov_file.specs.Walked.{Told, Walked, Walks, atom_told, both, deep_told, end_told, told_in}
-use Rattle.mov_file.proofs.Walks.{all_left, both_none, cut_refused, deep_plain, deep_split, end_refused, inner_told, inside_told, left_fails, left_more, left_none, none_deep, none_inner, none_told, opens_plain, small_refused, some_inner, stands, step_walked, told_more, told_stop, walks_both}
+use Rattle.mov_file.specs.Walked.{Remembers, Told, Walked, Walks, atom_told, both, deep_told, end_told, told_in}
+use Rattle.mov_file.proofs.Walks.{all_left, both_none, cut_refused, deep_plain, deep_split, end_refused, inner_told, inside_told, left_fails, left_more, left_none, none_deep, none_inner, none_told, small_refused, some_inner, stands, step_walked, told_more, told_stop, walks_both}
 use Rattle.mov_file.proofs.walk.+walk.Goals as goal
 
 pub walk_atom-returns-in-Err-clause-walks : goal.walk_atom-returns-in-Err-clause-walks
@@ -148,8 +149,8 @@ walk_atoms-atoms-preserved g t c =
           (told_more c.args.depth p s b at k.next end this step.0 step.1) met);
     }
 
-pub walk_atoms-returns-in-Ok-clause-walks : goal.walk_atoms-returns-in-Ok-clause-walks
-walk_atoms-returns-in-Ok-clause-walks g t c = λ b before holds knows.
+pub walk_atoms-returns-in-Ok-keep_rest-clause-walks : goal.walk_atoms-returns-in-Ok-keep_rest-clause-walks
+walk_atoms-returns-in-Ok-keep_rest-clause-walks g t c = λ b before holds knows.
     let inv = c.atoms.invariant in
     let held = holds_on _ _ b inv.reads holds in
     let at = c.atoms.walker.at in
@@ -157,13 +158,19 @@ walk_atoms-returns-in-Ok-clause-walks g t c = λ b before holds knows.
     let p = place_of c.args.holder in
     let s = level_in c.args.holder in
     let left = inv.left b before holds knows in
+    let over = window b at end in
     let step : Stepped s b at end None = subst (λ (x : Parent). Stepped (level_of x) b at end None) inv.parent (rw c.in-Ok-None.field-0-is at (c.in-Ok-None.ensures.row b held)) in
-    let there : Walks left.mid (end_told p at ends (window b at end)) c.atoms.reading c.keep_rest.new.reading (Ok tt) =
-    step_walked left.mid (end_at p at ends) (rest_parts at (window b at end)) c.atoms.reading c.keep_rest.new.reading (sym (c.in-None.ensures left.mid left.knows.moov))
-    (c.in-Ok.ensures.remembers (window b at end) left.mid p whole left.knows)
+    let moved : c.next.new.self.at ≡ at = rw c.in-Ok-None.field-0-is at c.in-Ok-None.ensures.moved in
+    let long : length over ≡ end - at = length-window b at end (rw inv.end (c.requires.inside b holds)) in
+    let whole : c.next.new.self.at + length over ≡ c.next.new.self.end = omega (arith, moved, c.next.ensures.end, long, c.atoms.walker.in_order) in
+    let kept : Remembers left.mid (end_at p at ends) (rest_parts at over) c.atoms.reading c.keep_rest.new.reading =
+    subst (λ (i : ℕ). Remembers left.mid (end_at p i ends) (rest_parts i over) c.atoms.reading c.keep_rest.new.reading) moved (c.in-Ok-keep_rest.ensures.remembers over left.mid p whole left.knows)
+    in
+    let last : Walked left.mid (end_told p at ends over) c.atoms.reading c.keep_rest.new.reading =
+    step_walked left.mid (end_at p at ends) (rest_parts at over) c.atoms.reading c.keep_rest.new.reading (sym (c.in-None.ensures left.mid left.knows.moov)) kept
     in
     left_none before _ _ c.args.reading.now c.atoms.reading c.keep_rest.new.reading left
-    (subst (λ (t : Told). Walked left.mid t c.atoms.reading c.keep_rest.new.reading) (sym (told_stop c.args.depth p s b at end ends (window b at end) step)) there)
+    (subst (λ (t : Told). Walked left.mid t c.atoms.reading c.keep_rest.new.reading) (sym (told_stop c.args.depth p s b at end ends over step)) last)
 
 pub walk_atoms-returns-in-Some-clause-walks : goal.walk_atoms-returns-in-Some-clause-walks
 walk_atoms-returns-in-Some-clause-walks g t c = λ b before holds knows.

@@ -1,4 +1,4 @@
-use Rattle.std.proofs.Common.{refl, sym, ap, subst, ◌≡◌, ◌∙◌, ◌+◌, ◌∷◌, [], ℕ, List, Bool, length}
+use Rattle.std.proofs.Common.{arith, refl, sym, ap, subst, ◌≡◌, ◌∙◌, ◌+◌, ◌-◌, ℕ, Bool, length}
 use Rattle.std.specs.Prelude.{◌&&◌, ◌||◌, codes, not}
 use Rattle.std.specs.Str.{bytes_eq}
 use Rattle.std.specs.declared.option.Option.TheVariants.{Some, None}
@@ -9,13 +9,15 @@ use Rattle.container_model.specs.Chunk.{bad_header, ends, passes, spell}
 use Rattle.container_model.specs.Sizes.{inside}
 use Rattle.container_model.specs.Walk.{end_at}
 use Rattle.container_model.specs.Windows.{window}
+use Rattle.container_model.proofs.Windows.{length-window}
+use Rattle.part_tree.specs.Parts.{rest_parts}
 use Rattle.mov_model.specs.Atoms.{moov}
 use Rattle.part_tree.specs.declared.why.ReadFault.TheVariants as fault
 use Rattle.part_tree.specs.declared.why.Why.TheVariants as why
 use Rattle.qt_atoms.specs.Walk.{InOrder, Stepped, StuckThere, atom_in, level_of}
 use Rattle.qt_atoms.specs.declared.header.Parent.{Parent}
 use Rattle.qt_atoms.specs.declared.walker.AtomFault.TheVariants.{SizeSmall, Truncated}
-use Rattle.mov_file.specs.Walked.{Told, Walked, Walks, end_told, kid_told, moov_told}
+use Rattle.mov_file.specs.Walked.{Remembers, Told, Walked, Walks, end_told, kid_told, moov_told}
 use Rattle.mov_file.proofs.Walks.{IsLeft, both_none, cut_refused, left_fails, left_more, left_none, moov_more, moov_stop, none_told, small_refused, step_walked, user_after}
 use Rattle.mov_file.proofs.walk.walk_moov.Goals as goal
 
@@ -47,17 +49,26 @@ returns-in-Err-Truncated-clause-walks g c = λ b before holds knows.
     in
     refused ∙ ap (λ (i : ℕ). Some (why.Truncated i)) (sym c.in-Err-Truncated.at-is)
 
-pub returns-in-Ok-None-clause-walks : goal.returns-in-Ok-None-clause-walks
-returns-in-Ok-None-clause-walks g c = λ b before holds knows.
+pub returns-in-Ok-keep_rest-clause-walks : goal.returns-in-Ok-keep_rest-clause-walks
+returns-in-Ok-keep_rest-clause-walks g c = λ b before holds knows.
     let inv = c.kids.invariant in
     let held = holds_on _ _ b inv.reads holds in
     let at = c.kids.walker.at in
     let end = c.kids.walker.end in
     let left = inv.left b before holds knows in
+    let over = window b at end in
     let step : Stepped inside b at end None = subst (λ (x : Parent). Stepped (level_of x) b at end None) inv.parent (rw c.in-Ok-None.field-0-is at (c.in-Ok-None.ensures.row b held)) in
-    left_none before _ c.args.reading.now c.kids.reading
-    (left_more before _ _ (end_told moov at ends (window b at end)) none_told c.args.reading.now c.kids.reading c.kids.reading left (moov_stop c.kids.reading.has_user b at end ends (window b at end) step ∙ sym (both_none _))
-    (end_walked left.mid moov at c.kids.reading left.knows refl))
+    let moved : c.next.new.self.at ≡ at = rw c.in-Ok-None.field-0-is at c.in-Ok-None.ensures.moved in
+    let long : length over ≡ end - at = length-window b at end (rw inv.end (c.requires.inside b holds)) in
+    let whole : c.next.new.self.at + length over ≡ c.next.new.self.end = omega (arith, moved, c.next.ensures.end, long, c.kids.walker.in_order) in
+    let kept : Remembers left.mid (end_at moov at ends) (rest_parts at over) c.kids.reading c.keep_rest.new.reading =
+    subst (λ (i : ℕ). Remembers left.mid (end_at moov i ends) (rest_parts i over) c.kids.reading c.keep_rest.new.reading) moved (c.in-Ok-keep_rest.ensures.remembers over left.mid moov whole left.knows)
+    in
+    let last : Walked left.mid (end_told moov at ends over) c.kids.reading c.keep_rest.new.reading =
+    step_walked left.mid (end_at moov at ends) (rest_parts at over) c.kids.reading c.keep_rest.new.reading refl kept
+    in
+    left_none before _ _ c.args.reading.now c.kids.reading c.keep_rest.new.reading left
+    (subst (λ (t : Told). Walked left.mid t c.kids.reading c.keep_rest.new.reading) (sym (moov_stop c.kids.reading.has_user b at end ends over step)) last)
 
 pub returns-in-Err-clause-walks : goal.returns-in-Err-clause-walks
 returns-in-Err-clause-walks g c = λ b before holds knows.

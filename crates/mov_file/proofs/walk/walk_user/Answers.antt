@@ -1,4 +1,4 @@
-use Rattle.std.proofs.Common.{arith, refl, sym, subst, ◌+◌, ◌∷◌, [], true, List}
+use Rattle.std.proofs.Common.{arith, refl, sym, subst, ◌+◌, ◌∷◌, true}
 use Rattle.me_disk.proofs.Holds.{holds_on}
 use Rattle.container_model.specs.Sizes.{user}
 use Rattle.container_model.specs.Walk.{chunk_at}
