@@ -23,6 +23,7 @@ use Rattle.mov_file.specs.declared.holder.Holder.{Holder}
 use Rattle.mov_file.specs.declared.holder.Holder.TheVariants.{File, UserData, Moov, Trak, Mdia, Minf, Stbl, Dinf}
 use Rattle.mov_file.specs.declared.reading.Reading.{Reading}
 use Rattle.mov_file.specs.Holder.{place_of}
+use Rattle.mov_file.specs.Track.{tables_by}
 use Rattle.mov_file.specs.Walked.{AreMet, Knows, Remembers, Stands, is_moov_kid, is_top, names_after, names_by, role_by}
 
 or_swap : (a b : Bool) → (a || b) ≡ (b || a)
@@ -122,6 +123,7 @@ pub record Grown (h : Holder) (k : AtomAt) (old new : Reading) : Type 0 where
   pub names : new.names.items ≡ names_after h k.kind.0 old.names.items
   pub parts : new.parts.items ≡ old.parts.items ++ record { id = k.kind; at = k.at; body = k.body; next = k.next; role = role_by (place_of h) old.has_user (atom k.kind.0 []) } ∷ []
   pub mdats : new.mdats.items ≡ old.mdats.items ++ (if is_top (place_of h) (bytes_eq k.kind.0 (codes "mdat")) then k.body ∷ [] else [])
+  pub tracks : new.tracks.items ≡ tables_by (place_of h) k.kind.0 k.body old.tracks.items
 
 span_is : (at len : ℕ) (s : Span) → at ≡ s.at → len ≡ s.len → record { at = at; len = len } ≡ s
 span_is at len s e f = ap (λ (a : ℕ). record { at = a; len = len }) e ∙ ap (λ (n : ℕ). record { at = s.at; len = n }) f
@@ -151,6 +153,7 @@ kept h c k before old new st knows g =
           ∙ ap (λ (i : List ℕ). old.mdats.items ++ (if is_top p (bytes_eq i (codes "mdat")) then k.body ∷ [] else [])) id
           ∙ ap (λ (s : Span). old.mdats.items ++ (if is_top p (bytes_eq c.id (codes "mdat")) then s ∷ [] else [])) span
           ∙ ap (λ (xs : List Span). old.mdats.items ++ xs) (sym (essence_same p k.at c));
+      tracks = g.tracks ∙ ap (λ (i : List ℕ). tables_by p i k.body old.tracks.items) id ∙ ap (λ (s : Span). tables_by p c.id s old.tracks.items) span;
     }
 
 -- ---- a rest
@@ -164,6 +167,7 @@ pub record Rested (ps : List Part) (old new : Reading) : Type 0 where
   pub names : new.names.items ≡ old.names.items
   pub parts : new.parts.items ≡ old.parts.items ++ ps
   pub mdats : new.mdats.items ≡ old.mdats.items
+  pub tracks : new.tracks.items ≡ old.tracks.items
 
 pub rested : (p : Place) (at : ℕ) (before : List (Step Place)) (ps : List Part) (old new : Reading) → Knows old before → Rested ps old new → Remembers before (end_at p at ends) ps old new
 rested p at before ps old new knows r = record {
@@ -176,6 +180,7 @@ rested p at before ps old new knows r = record {
   };
   parts = r.parts;
   mdats = r.mdats ∙ sym (append-nil old.mdats.items);
+  tracks = r.tracks;
 }
 
 -- where nothing is left there is no rest

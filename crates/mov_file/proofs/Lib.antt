@@ -5,3 +5,11 @@ pub mod Firsts
 pub mod Kept
 pub mod Heads
 pub mod Walks
+pub mod KeyItems
+pub mod Lies
+pub mod Held
+pub mod Tracks
+pub mod Fine
+pub mod Carried
+pub mod Whole
+pub mod Sound

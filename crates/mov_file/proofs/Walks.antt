@@ -30,6 +30,8 @@ use Rattle.qt_atoms.specs.declared.walker.AtomAt.{AtomAt}
 use Rattle.qt_atoms.proofs.Steps.{header_length}
 use Rattle.mov_file.specs.Holder.{level_in, place_of}
 use Rattle.mov_file.specs.Tests.{moov_by}
+use Rattle.mov_file.specs.Track.{tables_after, tables_met}
+use Rattle.mov_file.specs.declared.track.TablesAt.{TablesAt}
 use Rattle.mov_file.specs.declared.holder.Holder.{Holder}
 use Rattle.mov_file.specs.declared.holder.Holder.TheVariants.{File, UserData, Moov, Trak, Mdia, Minf, Stbl, Dinf}
 use Rattle.qt_atoms.specs.Walk.{InOrder, atom_in, row}
@@ -69,6 +71,11 @@ pub both_none : (x : Told) → both x none_told ≡ x
 both_none x =
     ap (λ (ss : List (Step Place)). record { steps = ss; parts = x.parts ++ [] }) (append-nil x.steps) ∙ ap (λ (ps : List Part). record { steps = x.steps; parts = ps }) (append-nil x.parts)
 
+-- the tables that are kept of them
+pub tables_both : (ts : List TablesAt) (xs ys : List (Step Place)) → tables_after ts (xs ++ ys) ≡ tables_after (tables_after ts xs) ys
+tables_both ts [] ys = refl
+tables_both ts (s ∷ xs) ys = tables_both (tables_met s ts) xs ys
+
 -- ---- what is read so far, and what is left
 
 -- What is kept is of some steps, and what is left behind them says the rest.
@@ -78,10 +85,11 @@ pub record IsLeft (before : List (Step Place)) (whole rest : Told) (old now : Re
   pub tests : first (tests_from before whole.steps) ≡ first (tests_from mid rest.steps)
   pub parts : old.parts.items ++ whole.parts ≡ now.parts.items ++ rest.parts
   pub mdats : old.mdats.items ++ flat_map essence_at whole.steps ≡ now.mdats.items ++ flat_map essence_at rest.steps
+  pub tracks : tables_after old.tracks.items whole.steps ≡ tables_after now.tracks.items rest.steps
   pub all : after before whole.steps ≡ after mid rest.steps
 
 abbrev pub all_left : (before : List (Step Place)) (whole : Told) (old : Reading) → Knows old before → IsLeft before whole whole old old
-all_left before whole old knows = record { mid = before; knows = knows; tests = refl; parts = refl; mdats = refl; all = refl }
+all_left before whole old knows = record { mid = before; knows = knows; tests = refl; parts = refl; mdats = refl; tracks = refl; all = refl }
 
 -- steps that are met
 pub left_more : (before : List (Step Place)) (whole rest t more : Told) (old now next : Reading) (left : IsLeft before whole rest old now) → rest ≡ both t more → Walked left.mid t now next → IsLeft before whole more old next
@@ -94,6 +102,7 @@ left_more before whole rest t more old now next left is w =
       parts = left.parts ∙ ap (λ (r : Told). now.parts.items ++ r.parts) is ∙ sym (append_assoc now.parts.items t.parts more.parts) ∙ ap (λ (ps : List Part). ps ++ more.parts) (sym w.parts);
       mdats = left.mdats ∙ ap (λ (r : Told). now.mdats.items ++ flat_map essence_at r.steps) is ∙ ap (λ (ss : List Span). now.mdats.items ++ ss) (essence_both t.steps more.steps)
           ∙ sym (append_assoc now.mdats.items (flat_map essence_at t.steps) (flat_map essence_at more.steps)) ∙ ap (λ (ss : List Span). ss ++ flat_map essence_at more.steps) (sym w.mdats);
+      tracks = left.tracks ∙ ap (λ (r : Told). tables_after now.tracks.items r.steps) is ∙ tables_both now.tracks.items t.steps more.steps ∙ ap (λ (ts : List TablesAt). tables_after ts more.steps) (sym w.tracks);
       all = left.all ∙ ap (λ (r : Told). after mid r.steps) is ∙ after_both mid t.steps more.steps;
     }
 
@@ -112,6 +121,7 @@ left_none before whole rest old now next left w = record {
   knows = subst (Knows next) (sym left.all) w.knows;
   parts = w.parts ∙ sym left.parts;
   mdats = w.mdats ∙ sym left.mdats;
+  tracks = w.tracks ∙ sym left.tracks;
 }
 
 -- ---- one step
@@ -131,6 +141,7 @@ step_walked before s ps old new none r = record {
   knows = r.knows;
   parts = r.parts;
   mdats = r.mdats ∙ ap (λ (ss : List Span). old.mdats.items ++ ss) (sym (append-nil (essence_at s)));
+  tracks = r.tracks;
 }
 
 pub step_refused : (before : List (Step Place)) (s : Step Place) (w : Why) → first (step_tests before s) ≡ Some w → first (tests_from before (s ∷ [])) ≡ Some w
@@ -350,6 +361,7 @@ walks_both before x y a b c (Ok _) w v = record {
   parts = v.parts ∙ ap (λ (ps : List Part). ps ++ y.parts) w.parts ∙ append_assoc a.parts.items x.parts y.parts;
   mdats = v.mdats ∙ ap (λ (ss : List Span). ss ++ flat_map essence_at y.steps) w.mdats ∙ append_assoc a.mdats.items (flat_map essence_at x.steps) (flat_map essence_at y.steps)
       ∙ ap (λ (ss : List Span). a.mdats.items ++ ss) (sym (essence_both x.steps y.steps));
+  tracks = v.tracks ∙ ap (λ (ts : List TablesAt). tables_after ts y.steps) w.tracks ∙ sym (tables_both a.tracks.items x.steps y.steps);
 }
 walks_both before x y a b c (Err (fault.Why why)) w v =
     ap first (tests_both before x.steps y.steps) ∙ first_behind (tests_from before x.steps) (tests_from (after before x.steps) y.steps) w.tests ∙ v

@@ -1,3 +1,4 @@
+pub mod Map
 pub mod Chunks
 pub mod Moov
 pub mod Fields
@@ -6,3 +7,8 @@ pub mod Holder
 pub mod Walked
 pub mod Tests
 pub mod Tables
+pub mod Track
+pub mod Keys
+pub mod Carriers
+pub mod Sound
+pub mod Whole

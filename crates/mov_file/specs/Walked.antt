@@ -24,6 +24,7 @@ use Rattle.mov_file.specs.declared.holder.Holder.{Holder}
 use Rattle.mov_file.specs.declared.holder.Holder.TheVariants.{Moov}
 use Rattle.mov_file.specs.declared.reading.Reading.{Reading}
 use Rattle.mov_file.specs.Holder.{place_of}
+use Rattle.mov_file.specs.Track.{tables_after, tables_met}
 
 -- these names are those that were met
 abbrev pub AreMet : List FourCc → List (List ℕ) → Type 0
@@ -126,6 +127,7 @@ pub record Remembers (before : List (Step Place)) (s : Step Place) (ps : List Pa
   pub knows : Knows new (s ∷ before)
   pub parts : new.parts.items ≡ old.parts.items ++ ps
   pub mdats : new.mdats.items ≡ old.mdats.items ++ essence_at s
+  pub tracks : new.tracks.items ≡ tables_met s old.tracks.items
 
 -- the steps that were met after these
 abbrev pub after : List (Step Place) → List (Step Place) → List (Step Place)
@@ -138,6 +140,7 @@ pub record Walked (before : List (Step Place)) (t : Told) (old new : Reading) : 
   pub knows : Knows new (after before t.steps)
   pub parts : new.parts.items ≡ old.parts.items ++ t.parts
   pub mdats : new.mdats.items ≡ old.mdats.items ++ flat_map essence_at t.steps
+  pub tracks : new.tracks.items ≡ tables_after old.tracks.items t.steps
 
 -- steps are met, or the first test that refuses them
 abbrev pub Walks : List (Step Place) → Told → Reading → Reading → Result Unit ReadFault → Type 0

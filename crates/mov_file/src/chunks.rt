@@ -1,5 +1,5 @@
 // Whether each chunk of a track stands in an `mdat`.
-ghost use Rattle.std.specs.Prelude.{◌≡◌, ◌≤◌, ◌<◌, ◌+◌, ◌*◌, ◌^◌, ℕ, List, take, drop, IfOk};
+ghost use Rattle.std.specs.Prelude.{◌≡◌, ◌≤◌, ◌<◌, ◌+◌, ◌*◌, ◌^◌, ℕ, List, take, drop, IfOk, IsNone};
 ghost use Rattle.std.specs.Int.{w32, w64, from_be_bytes};
 ghost use Rattle.me_disk.specs.Steps.{HasCause, ReadsOnly};
 ghost use Rattle.me_disk.specs.Holds.{Holds, Inside};
@@ -133,6 +133,7 @@ pub fn astray_in<D: Depot>(
     requires order { Ascends 0 mdats.now }
     requires window { IsWindow (D.disk depot.old) window.old }
     ensures astray { (b : List ℕ) → Holds (D.disk depot.old) b → HasRows wide (slice b body.at body.len) → IfOk result (λ found. found ≡ first_astray mdats.now 1 (places_of wide (slice b body.at body.len))) }
+    ensures none { body.len < 8 → IfOk result (λ found. IsNone found) }
     ensures window { IsWindow (D.disk depot.new) window.new }
     ensures reads { ReadsOnly (D.disk depot.old) (D.disk depot.new) }
     ensures cause { HasCause (D.disk depot.old) (D.disk depot.new) result }

@@ -1,11 +1,14 @@
-//! The atoms of a QuickTime movie in the order of reading: those of the file, then those in `moov`, depth first (QuickTime
-//! File Format, atoms; what is opened and refused is this project's own). It reads headers and the heads of tables, and
-//! never the essence.
+//! Reads QuickTime movies (QuickTime File Format): the map of a file's atoms, its fields, its essence and the tables of its
+//! tracks, or why the file is refused. It reads headers, user data, key tables and sample tables, and never the essence.
 #![tactic(auto)]
 
+mod carriers;
 mod chunks;
 mod holder;
+mod keys;
+mod map;
 mod moov;
+mod movie;
 mod range;
 mod reading;
 mod refusals;
@@ -13,11 +16,8 @@ mod tables;
 #[cfg(test)]
 mod tests;
 mod texts;
+mod track;
 mod walk;
 
-pub use chunks::astray_in;
-pub use holder::Holder;
-pub use moov::{begins, find_moov};
-pub use reading::Reading;
-pub use texts::take_user;
-pub use walk::{walk_file, walk_moov};
+pub use map::MovMap;
+pub use movie::read_mov;

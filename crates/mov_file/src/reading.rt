@@ -8,15 +8,19 @@ ghost use Rattle.mov_model.specs.Atoms.{Place, is_padding};
 ghost use Rattle.container_model.specs.Atoms.{atom, is_listed};
 ghost use Rattle.mov_model.specs.Map.{file_role, moov_role, part};
 ghost use Rattle.mov_file.specs.Holder.{place_of};
+ghost use Rattle.qt_atoms.specs.Walk.{InOrder};
+ghost use Rattle.mov_file.specs.Sound.{LiesIn};
+ghost use Rattle.mov_file.specs.declared.holder.Holder.{Holder};
 ghost use Rattle.mov_file.specs.Walked.{Few, Knows, Remembers, Stands, is_moov_kid, is_top, names_after, role_by};
 
 use crate::holder::{Holder, once_as};
+use crate::track::{TablesAt, keep_tables};
 use part_tree::{FourCc, NoMemory, Part, Role, Span};
 use qt_atoms::AtomAt;
 use std::alloc::Global;
 
 /// What was met so far: how many atoms, whether a `moov` and user data were among them, the number of the track that is read,
-/// from 1, the names that were met in it, all parts, and the bodies that hold the essence.
+/// from 1, the names that were met in it, all parts, the bodies that hold the essence, and the tables of the tracks.
 #[derive(Debug, Drop)]
 pub struct Reading {
     pub count: u64,
@@ -26,6 +30,7 @@ pub struct Reading {
     pub names: Vec<FourCc>,
     pub parts: Vec<Part>,
     pub mdats: Vec<Span>,
+    pub tracks: Vec<TablesAt>,
 }
 
 impl Reading {
@@ -35,6 +40,7 @@ impl Reading {
         ensures few { Few result }
         ensures parts { result.parts.items ≡ [] }
         ensures mdats { result.mdats.items ≡ [] }
+        ensures tracks { result.tracks.items ≡ [] }
         ensures user { result.has_user ≡ false }
     {
         Reading {
@@ -45,6 +51,7 @@ impl Reading {
             names: Vec::new(alloc),
             parts: Vec::new(alloc),
             mdats: Vec::new(alloc),
+            tracks: Vec::new(alloc),
         }
     }
 }
@@ -165,6 +172,7 @@ fn track_after(track: u32, holder: Holder, kind: FourCc) -> u32
 pub fn remember(reading: &mut Reading, holder: Holder, atom: &AtomAt) -> Result<(), NoMemory>
     requires few { Few reading.old }
     requires room { reading.old.count < 65536 }
+    ensures lies { InOrder atom.now.at atom.now.next atom.now → OnOk result (LiesIn holder atom.now.at atom.now.next reading.old reading.new) }
     ensures few { OnOk result (Few reading.new) }
     ensures remembers { (c : Chunk) (before : List (Step Place)) → Stands c atom.now → Knows reading.old before
         → OnOk result (Remembers before (chunk_at (place_of holder) atom.now.at c) (part (role_by (place_of holder) reading.old.has_user c) atom.now.at c ∷ [])
@@ -182,6 +190,7 @@ pub fn remember(reading: &mut Reading, holder: Holder, atom: &AtomAt) -> Result<
         Ok(()) => {}
     }
     keep_essence(&mut reading.mdats, holder, atom)?;
+    keep_tables(&mut reading.tracks, holder, atom)?;
     keep_name(&mut reading.names, holder, atom.kind)?;
     reading.count += 1;
     reading.has_moov = reading.has_moov | is_of_file(holder, atom.kind.is(b"moov"));
@@ -194,6 +203,7 @@ pub fn remember(reading: &mut Reading, holder: Holder, atom: &AtomAt) -> Result<
 pub fn keep_rest(reading: &mut Reading, at: u64, end: u64) -> Result<(), NoMemory>
     requires order { at ≤ end }
     requires few { Few reading.old }
+    ensures lies { (h : Holder) → OnOk result (LiesIn h at end reading.old reading.new) }
     ensures few { OnOk result (Few reading.new) }
     ensures remembers { (left : List ℕ) (before : List (Step Place)) (p : Place) → at + length left ≡ end → Knows reading.old before
         → OnOk result (Remembers before (end_at p at ends) (rest_parts at left) reading.old reading.new) }

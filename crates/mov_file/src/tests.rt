@@ -1,13 +1,19 @@
-// A movie worked by hand, and movies of which an atom is refused.
-use crate::{Reading, astray_in, begins, find_moov, take_user, walk_file, walk_moov};
+// A movie worked by hand, one with keys, and movies of which an atom or a chunk is refused.
+use crate::chunks::astray_in;
+use crate::texts::take_user;
+use crate::{MovMap, read_mov};
 use me_disk::{Depot, DepotFault, HeaderWindow, MemoryDepot, Room, Slot};
-use part_tree::{FieldName, Fields, FourCc, ReadFault, Role, Span, Why};
+use part_tree::{FieldName, Fields, FourCc, KeyName, ReadFault, Role, Span, Track, Why};
 use std::alloc::{AllocError, Global};
 use std::test::Fail;
 
 // `ftyp`; `moov` with a track whose `stbl` has a place, and a name; `mdat`.
 const MOVIE: [u8; 119] =
     *b"\0\0\0\x0Cftypqt  \0\0\0_moov\0\0\04trak\0\0\0,mdia\0\0\0$minf\0\0\0\x1Cstbl\0\0\0\x14stco\0\0\0\0\0\0\0\x01\0\0\0w\0\0\0\x08free\0\0\0\x1Budta\0\0\0\x0F\xA9nam\0\x03\x15\xC7abc\0\0\0\0\0\0\0\x0Cmdat\x01\x02\x03\x04";
+
+// `ftyp`; `moov` with a `meta` that is no key table, and one with two keys, of which the second is a field.
+const KEYS: [u8; 170] =
+    *b"\0\0\0\x0Cftypqt  \0\0\0\x9Emoov\0\0\0\x0Cmeta\0\0\0\0\0\0\0\x8Ameta\0\0\0!hdlr\0\0\0\0\0\0\0\0mdta\0\0\0\0\0\0\0\0\0\0\0\0\0\0\0\0%keys\0\0\0\0\0\0\0\x02\0\0\0\x0Cmdtaa b \0\0\0\x09mdtaa\0\0\0<ilst\0\0\0\x1A\0\0\0\x02\0\0\0\x12data\0\0\0\x01\0\0\0\0Hi\0\0\0\x1A\0\0\0\x01\0\0\0\x12data\0\0\0\x01\0\0\0\0no";
 
 fn depot_of(alloc: Global, file: &[u8]) -> Result<MemoryDepot, AllocError> {
     let room = Room {
@@ -26,51 +32,66 @@ fn depot_of(alloc: Global, file: &[u8]) -> Result<MemoryDepot, AllocError> {
     }
 }
 
-// What is met of a movie.
-fn walk<D: Depot>(alloc: Global, depot: &mut D) -> Result<Reading, ReadFault> {
-    let len = match depot.len(Slot::Main) {
-        Err(_) => return Err(ReadFault::Depot),
-        Ok(len) => len,
-    };
-    match begins(depot, len) {
-        Err(_) => return Err(ReadFault::Depot),
-        Ok(false) => return Err(ReadFault::Why(Why::UnknownKind)),
-        Ok(true) => {}
+fn read(alloc: Global, file: &[u8]) -> Result<MovMap, ReadFault> {
+    match depot_of(alloc, file) {
+        Err(_) => Err(ReadFault::Memory),
+        Ok(mut depot) => read_mov(alloc, &mut depot),
     }
-    let mut reading = Reading::new(alloc);
-    walk_file(&mut reading, depot, len)?;
-    let moov = find_moov(depot, len)?;
-    walk_moov(&mut reading, depot, moov.body)?;
-    Ok(reading)
 }
 
 #[test]
-fn meets_each_atom_in_order(rt: HostRuntime) -> Result<(), Fail> {
-    let mut depot = depot_of(rt.alloc(), &MOVIE)?;
-    let reading = walk(rt.alloc(), &mut depot)?;
+fn reads_a_movie(rt: HostRuntime) -> Result<(), Fail> {
+    let mut movie = MOVIE;
+    movie[71] = 115;
+    let map = read(rt.alloc(), &movie)?;
     let places = [0, 12, 107, 20, 28, 36, 44, 52, 72, 80, 88, 103];
-    assert_eq!(rt; reading.parts.len(), places.len());
-    for (part, at) in reading.parts.iter().zip(&places) {
+    assert_eq!(rt; map.parts.len(), places.len());
+    for (part, at) in map.parts.iter().zip(&places) {
         assert_eq!(rt; part.at, *at);
     }
-    assert_eq!(rt; reading.parts[2].role, Role::Essence);
-    assert_eq!(rt; reading.parts[7].role, Role::Tables);
-    assert_eq!(rt; reading.parts[8].role, Role::Padding);
-    assert_eq!(rt; reading.parts[9].role, Role::UserData);
-    assert_eq!(rt; reading.parts[10].role, Role::Opaque);
-    assert_eq!(rt; reading.parts[11].role, Role::Rest);
-    assert_eq!(rt; reading.parts[11].next, 107);
+    assert_eq!(rt; map.parts[2].role, Role::Essence);
+    assert_eq!(rt; map.parts[7].role, Role::Tables);
+    assert_eq!(rt; map.parts[8].role, Role::Padding);
+    assert_eq!(rt; map.parts[9].role, Role::UserData);
+    assert_eq!(rt; map.parts[11].role, Role::Rest);
+    let essence = [Span { at: 115, len: 4 }];
+    assert_eq!(rt; map.mdats.as_slice(), essence.as_slice());
+    let track = Track {
+        chunks: Span { at: 60, len: 12 },
+        wide: false,
+        stsc: None,
+        stsz: None,
+    };
+    assert_eq!(rt; map.tracks.as_slice(), [track].as_slice());
+    assert_eq!(rt; map.moov.body, Span { at: 20, len: 87 });
+    assert_eq!(rt; map.user.map(|atom| atom.at), Some(80));
+    assert_eq!(rt; map.meta, None);
+    let texts = map.fields.get(&FieldName::User(FourCc(*b"\xA9nam")));
+    assert_eq!(rt; texts[0].raw.as_slice(), b"abc".as_slice());
+    Ok(())
+}
+
+#[test]
+fn reads_keys(rt: HostRuntime) -> Result<(), Fail> {
+    let map = read(rt.alloc(), &KEYS)?;
+    assert_eq!(rt; map.meta.map(|atom| atom.at), Some(32));
+    let Some(name) = KeyName::new(b"a") else {
+        return Ok(());
+    };
+    let values = map.fields.get(&FieldName::Key(name));
+    assert_eq!(rt; values.len(), 1);
     assert_eq!(rt;
-        reading.mdats.as_slice(),
-        [Span { at: 115, len: 4 }].as_slice()
+        values[0].raw.as_slice(),
+        b"\0\0\0\x01\0\0\0\0Hi".as_slice()
     );
+    assert_eq!(rt; map.fields.name_at(1), None);
     Ok(())
 }
 
 #[test]
 fn refuses_by_the_first_reason(rt: HostRuntime) -> Result<(), Fail> {
     // the place of four other bytes, these, and the refusal
-    let rows: [(usize, [u8; 4], Why); 11] = [
+    let rows: [(usize, [u8; 4], Why); 13] = [
         (4, *b"xtyp", Why::UnknownKind),
         (111, *b"moof", Why::Fragments { at: 107 }),
         (16, *b"xoov", Why::NoMoov),
@@ -82,6 +103,8 @@ fn refuses_by_the_first_reason(rt: HostRuntime) -> Result<(), Fail> {
         (64, *b"\0\0\0\x02", Why::TableShort { at: 52 }),
         (72, *b"\0\0\0\x07", Why::SizeSmall { at: 72 }),
         (88, *b"\0\0\0\x20", Why::Truncated { at: 88 }),
+        (68, *b"\0\0\0\x72", Why::ChunkAstray { track: 1, chunk: 1 }),
+        (68, *b"\0\0\0\x77", Why::ChunkAstray { track: 1, chunk: 1 }),
     ];
     for (at, word, why) in rows {
         let mut file = MOVIE;
@@ -91,8 +114,7 @@ fn refuses_by_the_first_reason(rt: HostRuntime) -> Result<(), Fail> {
             file[at + 2] = word[2];
             file[at + 3] = word[3];
         }
-        let mut depot = depot_of(rt.alloc(), &file)?;
-        let fault = match walk(rt.alloc(), &mut depot) {
+        let fault = match read(rt.alloc(), &file) {
             Ok(_) => None,
             Err(fault) => Some(fault),
         };

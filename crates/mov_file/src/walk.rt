@@ -11,6 +11,7 @@ ghost use Rattle.mov_model.specs.Why.{end_tests, met_moov, step_tests};
 ghost use Rattle.container_model.specs.Tests.{first};
 ghost use Rattle.qt_atoms.specs.Walk.{InOrder, atom_in};
 ghost use Rattle.mov_file.specs.Holder.{level_in, place_of};
+ghost use Rattle.mov_file.specs.Sound.{LiesIn};
 ghost use Rattle.mov_file.specs.Walked.{Few, Knows, Walks, atom_told, deep_told, file_told, kid_told, moov_told, told_in};
 
 use crate::holder::{Holder, opened, parent};
@@ -63,6 +64,7 @@ fn take_atom<D: Depot>(
     ensures took { (b : List ℕ) (before : List (Step Place)) → Holds (D.disk depot.old) b
         → atom.now.at + length (spell (atom_in b atom.now)) ≡ atom.now.next → Knows reading.old before
         → Walks before (atom_told reading.old.has_user (place_of holder) atom.now.at (atom_in b atom.now)) reading.old reading.new result }
+    ensures lies { OnOk result (LiesIn holder atom.now.at atom.now.next reading.old reading.new) }
     ensures few { OnOk result (Few reading.new) }
     ensures reads { ReadsOnly (D.disk depot.old) (D.disk depot.new) }
     ensures cause { result ≡ Err ReadFault.Depot → Rose (D.disk depot.old).faults (D.disk depot.new).faults }
@@ -104,6 +106,7 @@ fn walk_atom<D: Depot>(
     ensures walks { (b : List ℕ) (before : List (Step Place)) → Holds (D.disk depot.old) b
         → atom.now.at + length (spell (atom_in b atom.now)) ≡ atom.now.next → Knows reading.old before
         → Walks before (deep_told reading.old.has_user depth (place_of holder) atom.now.at (atom_in b atom.now)) reading.old reading.new result }
+    ensures lies { OnOk result (LiesIn holder atom.now.at atom.now.next reading.old reading.new) }
     ensures few { OnOk result (Few reading.new) }
     ensures reads { ReadsOnly (D.disk depot.old) (D.disk depot.new) }
     ensures cause { result ≡ Err ReadFault.Depot → Rose (D.disk depot.old).faults (D.disk depot.new).faults }
@@ -136,6 +139,7 @@ fn walk_atoms<D: Depot>(
     requires few { Few reading.old }
     ensures walks { (b : List ℕ) (before : List (Step Place)) → Holds (D.disk depot.old) b → Knows reading.old before
         → Walks before (told_in depth (place_of holder) (level_in holder) b span.at (span.at + span.len)) reading.old reading.new result }
+    ensures lies { OnOk result (LiesIn holder span.at (span.at + span.len) reading.old reading.new) }
     ensures few { OnOk result (Few reading.new) }
     ensures reads { ReadsOnly (D.disk depot.old) (D.disk depot.new) }
     ensures cause { result ≡ Err ReadFault.Depot → Rose (D.disk depot.old).faults (D.disk depot.new).faults }
@@ -173,6 +177,7 @@ fn walk_user<D: Depot>(reading: &mut Reading, depot: &mut D, atom: &AtomAt) -> R
     ensures walks { (b : List ℕ) (before : List (Step Place)) → Holds (D.disk depot.old) b
         → atom.now.at + length (spell (atom_in b atom.now)) ≡ atom.now.next → Knows reading.old before
         → Walks before (kid_told reading.old.has_user true atom.now.at (atom_in b atom.now)) reading.old reading.new result }
+    ensures lies { OnOk result (LiesIn Holder.Moov atom.now.at atom.now.next reading.old reading.new) }
     ensures few { OnOk result (Few reading.new) }
     ensures reads { ReadsOnly (D.disk depot.old) (D.disk depot.new) }
     ensures cause { result ≡ Err ReadFault.Depot → Rose (D.disk depot.old).faults (D.disk depot.new).faults }
@@ -194,6 +199,7 @@ fn walk_kid<D: Depot>(reading: &mut Reading, depot: &mut D, atom: &AtomAt) -> Re
         → atom.now.at + length (spell (atom_in b atom.now)) ≡ atom.now.next → Knows reading.old before
         → Walks before (kid_told reading.old.has_user (not reading.old.has_user && bytes_eq atom.now.kind.0 (codes "udta")) atom.now.at
         (atom_in b atom.now)) reading.old reading.new result }
+    ensures lies { OnOk result (LiesIn Holder.Moov atom.now.at atom.now.next reading.old reading.new) }
     ensures few { OnOk result (Few reading.new) }
     ensures reads { ReadsOnly (D.disk depot.old) (D.disk depot.new) }
     ensures cause { result ≡ Err ReadFault.Depot → Rose (D.disk depot.old).faults (D.disk depot.new).faults }
@@ -216,6 +222,7 @@ pub fn walk_moov<D: Depot>(
     requires few { Few reading.old }
     ensures walks { (b : List ℕ) (before : List (Step Place)) → Holds (D.disk depot.old) b → Knows reading.old before
         → Walks before (moov_told reading.old.has_user b span.at (span.at + span.len)) reading.old reading.new result }
+    ensures lies { OnOk result (LiesIn Holder.Moov span.at (span.at + span.len) reading.old reading.new) }
     ensures few { OnOk result (Few reading.new) }
     ensures reads { ReadsOnly (D.disk depot.old) (D.disk depot.new) }
     ensures cause { result ≡ Err ReadFault.Depot → Rose (D.disk depot.old).faults (D.disk depot.new).faults }
@@ -248,6 +255,7 @@ pub fn walk_file<D: Depot>(reading: &mut Reading, depot: &mut D, len: u64) -> Re
     requires few { Few reading.old }
     ensures walks { (b : List ℕ) (before : List (Step Place)) → Holds (D.disk depot.old) b → length b ≡ len → Knows reading.old before
         → Walks before (file_told b) reading.old reading.new result }
+    ensures lies { OnOk result (LiesIn Holder.File 0 len reading.old reading.new) }
     ensures few { OnOk result (Few reading.new) }
     ensures reads { ReadsOnly (D.disk depot.old) (D.disk depot.new) }
     ensures cause { result ≡ Err ReadFault.Depot → Rose (D.disk depot.old).faults (D.disk depot.new).faults }

@@ -1,4 +1,4 @@
-use Rattle.std.proofs.Common.{arith, refl, sym, ap, subst, ◌≡◌, ◌∙◌, ◌+◌, ◌-◌, ◌∷◌, ℕ, length}
+use Rattle.std.proofs.Common.{arith, refl, sym, ap, subst, ◌≡◌, ◌∙◌, ◌+◌, ◌-◌, ◌≤◌, ◌∷◌, ℕ, length, rules}
 use Rattle.std.specs.declared.option.Option.TheVariants.{Some, None}
 use Rattle.std.specs.declared.result.Result.TheVariants.{Err}
 use Rattle.me_disk.proofs.Holds.{holds_on}
@@ -16,6 +16,8 @@ use Rattle.part_tree.specs.declared.why.Why.TheVariants as why
 use Rattle.mov_file.specs.Holder.{level_in, place_of}
 use Rattle.mov_file.specs.Walked.{Remembers, Told, Walked, Walks, atom_told, both, deep_told, end_told, told_in}
 use Rattle.mov_file.proofs.Walks.{all_left, both_none, cut_refused, deep_plain, deep_split, end_refused, inner_told, inside_told, left_fails, left_more, left_none, none_deep, none_inner, none_told, small_refused, some_inner, stands, step_walked, told_more, told_stop, walks_both}
+use Rattle.mov_file.specs.Sound.{LiesIn}
+use Rattle.mov_file.proofs.Sound.{lies_inner, lies_none, lies_then, on_ok, opened_inner}
 use Rattle.mov_file.proofs.walk.+walk.Goals as goal
 
 pub walk_atom-returns-in-Err-clause-walks : goal.walk_atom-returns-in-Err-clause-walks
@@ -133,6 +135,7 @@ walk_atoms-atoms-preserved g t c =
       end = c.next.ensures.end ∙ inv.end;
       parent = c.next.ensures.parent ∙ inv.parent;
       few = c.in-Ok.ensures.few;
+      lies = rw moved (lies_then c.args.holder c.args.span.at at k.next c.args.reading.now c.atoms.reading c.walk_atom.new.reading (omega (arith, order.body, order.behind)) inv.lies (rw order.begins at c.in-Ok.ensures.lies));
       reads = ReadsOnly-trans _ _ _ (ReadsOnly-trans _ _ _ inv.reads c.next.ensures.reads) c.walk_atom.ensures.reads;
       left = λ b before holds knows.
           let held = holds_on _ _ b inv.reads holds in
@@ -184,3 +187,25 @@ walk_atoms-returns-in-Some-clause-walks g t c = λ b before holds knows.
     let step : Stepped s b at end None = subst (λ (x : Parent). Stepped (level_of x) b at end None) inv.parent (rw c.in-Ok-None.field-0-is at (c.in-Ok-None.ensures.row b held)) in
     left_fails before _ _ (end_told p at ends (window b at end)) none_told c.args.reading.now c.atoms.reading c.atoms.reading (fault.Why c.in-Some.why) left (told_stop c.args.depth p s b at end ends (window b at end) step ∙ sym (both_none _))
     (end_refused left.mid p at (window b at end) c.atoms.reading c.atoms.reading c.in-Some.why (sym (c.in-Some.ensures left.mid left.knows.moov)))
+
+pub walk_atom-returns-in-Some-clause-lies : goal.walk_atom-returns-in-Some-clause-lies
+walk_atom-returns-in-Some-clause-lies g t c =
+    let k = c.args.atom.now in
+    let q = c.in-Some.inner in
+    let there : k.body.at + k.body.len ≤ k.next = omega (arith, c.requires.order.behind) in
+    on_ok c.walk_atoms.result
+    (lies_inner c.args.holder q k.at k.next k.body.at (k.body.at + k.body.len) c.args.reading.now c.take_atom.new.reading c.walk_atoms.new.reading (opened_inner q (place_of c.args.holder) k.kind.0 c.in-Some.ensures) there c.in-Ok.ensures.lies)
+    c.walk_atoms.ensures.lies
+
+pub walk_atoms-returns-in-Ok-keep_rest-clause-lies : goal.walk_atoms-returns-in-Ok-keep_rest-clause-lies
+walk_atoms-returns-in-Ok-keep_rest-clause-lies g t c =
+    let inv = c.atoms.invariant in
+    let at = c.atoms.walker.at in
+    let end = c.args.span.at + c.args.span.len in
+    let h = c.args.holder in
+    let moved : c.next.new.self.at ≡ at = rw c.in-Ok-None.field-0-is at c.in-Ok-None.ensures.moved in
+    let stays : c.next.new.self.end ≡ end = c.next.ensures.end ∙ inv.end in
+    let rest : LiesIn h at end c.atoms.reading c.keep_rest.new.reading =
+    subst (λ (i : ℕ). LiesIn h i end c.atoms.reading c.keep_rest.new.reading) moved (subst (λ (i : ℕ). LiesIn h c.next.new.self.at i c.atoms.reading c.keep_rest.new.reading) stays (c.in-Ok-keep_rest.ensures.lies h))
+    in
+    lies_then h c.args.span.at at end c.args.reading.now c.atoms.reading c.keep_rest.new.reading (omega (arith, c.atoms.walker.in_order, inv.end)) inv.lies rest

@@ -4,6 +4,7 @@ use Rattle.me_disk.specs.Holds.{Holds}
 use Rattle.container_model.specs.Walk.{Step}
 use Rattle.mov_model.specs.Atoms.{Place}
 use Rattle.mov_file.specs.Holder.{level_in, parent_of, place_of}
+use Rattle.mov_file.specs.Sound.{LiesIn}
 use Rattle.mov_file.specs.Walked.{Few, Knows, told_in}
 use Rattle.mov_file.proofs.Walks.{IsLeft}
 use Rattle.mov_file.proofs.walk.+walk.Given as goal
@@ -20,6 +21,7 @@ invariant-walk_atoms-atoms g l = record {
   end : l.walker.end ≡ l.fn.span.at + l.fn.span.len;
   parent : l.walker.parent ≡ parent_of l.holder;
   few : Few l.reading;
+  lies : LiesIn l.holder l.fn.span.at l.walker.at l.fn.reading l.reading;
   reads : ReadsOnly (g.D.Depot.disk l.fn.depot) (g.D.Depot.disk l.depot);
   left : (b : List ℕ) (before : List (Step Place)) → Holds (g.D.Depot.disk l.fn.depot) b → Knows l.fn.reading before
       → IsLeft before (told_in l.depth (place_of l.holder) (level_in l.holder) b l.fn.span.at (l.fn.span.at + l.fn.span.len)) (told_in l.depth (place_of l.holder) (level_in l.holder) b l.walker.at l.walker.end) l.fn.reading l.reading;

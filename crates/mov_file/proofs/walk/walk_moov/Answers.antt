@@ -1,4 +1,4 @@
-use Rattle.std.proofs.Common.{arith, refl, sym, ap, subst, ◌≡◌, ◌∙◌, ◌+◌, ◌-◌, ℕ, Bool, length}
+use Rattle.std.proofs.Common.{rules, arith, refl, sym, ap, subst, ◌≡◌, ◌∙◌, ◌+◌, ◌-◌, ℕ, Bool, length}
 use Rattle.std.specs.Prelude.{◌&&◌, ◌||◌, codes, not}
 use Rattle.std.specs.Str.{bytes_eq}
 use Rattle.std.specs.declared.option.Option.TheVariants.{Some, None}
@@ -19,6 +19,9 @@ use Rattle.qt_atoms.specs.declared.header.Parent.{Parent}
 use Rattle.qt_atoms.specs.declared.walker.AtomFault.TheVariants.{SizeSmall, Truncated}
 use Rattle.mov_file.specs.Walked.{Remembers, Told, Walked, Walks, end_told, kid_told, moov_told}
 use Rattle.mov_file.proofs.Walks.{IsLeft, both_none, cut_refused, left_fails, left_more, left_none, moov_more, moov_stop, none_told, small_refused, step_walked, user_after}
+use Rattle.mov_file.specs.declared.holder.Holder.TheVariants.{Moov}
+use Rattle.mov_file.specs.Sound.{LiesIn}
+use Rattle.mov_file.proofs.Sound.{lies_none, lies_then}
 use Rattle.mov_file.proofs.walk.walk_moov.Goals as goal
 
 pub returns-in-Err-SizeSmall-clause-walks : goal.returns-in-Err-SizeSmall-clause-walks
@@ -105,6 +108,7 @@ kids-preserved g c =
       end = c.next.ensures.end ∙ inv.end;
       parent = c.next.ensures.parent ∙ inv.parent;
       few = c.in-Ok.ensures.few;
+      lies = rw moved (lies_then Moov c.args.span.at at k.next c.args.reading.now c.kids.reading c.walk_kid.new.reading (omega (arith, order.body, order.behind)) inv.lies (rw order.begins at c.in-Ok.ensures.lies));
       reads = ReadsOnly-trans _ _ _ (ReadsOnly-trans _ _ _ inv.reads c.next.ensures.reads) c.walk_kid.ensures.reads;
       left = λ b before holds knows.
           let held = holds_on _ _ b inv.reads holds in
@@ -125,3 +129,15 @@ kids-preserved g c =
           in
           rw (moved, c.next.ensures.end) (subst (λ (t : Bool). IsLeft before whole (moov_told t b k.next end) c.args.reading.now c.walk_kid.new.reading) user_too next);
     }
+
+pub returns-in-Ok-keep_rest-clause-lies : goal.returns-in-Ok-keep_rest-clause-lies
+returns-in-Ok-keep_rest-clause-lies g c =
+    let inv = c.kids.invariant in
+    let at = c.kids.walker.at in
+    let end = c.args.span.at + c.args.span.len in
+    let moved : c.next.new.self.at ≡ at = rw c.in-Ok-None.field-0-is at c.in-Ok-None.ensures.moved in
+    let stays : c.next.new.self.end ≡ end = c.next.ensures.end ∙ inv.end in
+    let rest : LiesIn Moov at end c.kids.reading c.keep_rest.new.reading =
+    subst (λ (i : ℕ). LiesIn Moov i end c.kids.reading c.keep_rest.new.reading) moved (subst (λ (i : ℕ). LiesIn Moov c.next.new.self.at i c.kids.reading c.keep_rest.new.reading) stays (c.in-Ok-keep_rest.ensures.lies Moov))
+    in
+    lies_then Moov c.args.span.at at end c.args.reading.now c.kids.reading c.keep_rest.new.reading (omega (arith, c.kids.walker.in_order, inv.end)) inv.lies rest

@@ -1,4 +1,4 @@
-use Rattle.std.proofs.Common.{arith, refl, sym, subst, ◌+◌, ◌∷◌, true}
+use Rattle.std.proofs.Common.{arith, refl, sym, subst, ◌+◌, ◌≤◌, ◌∷◌, true}
 use Rattle.me_disk.proofs.Holds.{holds_on}
 use Rattle.container_model.specs.Sizes.{user}
 use Rattle.container_model.specs.Walk.{chunk_at}
@@ -7,6 +7,8 @@ use Rattle.mov_model.specs.Atoms.{moov, user_data}
 use Rattle.qt_atoms.specs.Walk.{atom_in}
 use Rattle.mov_file.specs.Walked.{Told, Walked, Walks, atom_told, kid_told, told_in}
 use Rattle.mov_file.proofs.Walks.{all_left, left_fails, stands, user_told, walks_both}
+use Rattle.mov_file.specs.declared.holder.Holder.TheVariants.{Moov, UserData}
+use Rattle.mov_file.proofs.Sound.{lies_inner, on_ok}
 use Rattle.mov_file.proofs.walk.walk_user.Goals as goal
 
 pub returns-in-Err-clause-walks : goal.returns-in-Err-clause-walks
@@ -32,3 +34,11 @@ returns-clause-walks g c = λ b before holds place knows.
     subst (λ (t : Told). Walks before t c.args.reading.now c.walk_atoms.new.reading c.walk_atoms.result) (sym (user_told seen k.at this b k st.body refl))
     (walks_both before (atom_told seen moov k.at this) (told_in 0 user_data user b k.body.at (k.body.at + k.body.len)) c.args.reading.now c.take_atom.new.reading c.walk_atoms.new.reading c.walk_atoms.result first_one
     (c.walk_atoms.ensures.walks b (chunk_at moov k.at this ∷ before) held first_one.knows))
+
+pub returns-clause-lies : goal.returns-clause-lies
+returns-clause-lies g c =
+    let k = c.args.atom.now in
+    let there : k.body.at + k.body.len ≤ k.next = omega (arith, c.requires.order.behind) in
+    on_ok c.walk_atoms.result
+    (lies_inner Moov UserData k.at k.next k.body.at (k.body.at + k.body.len) c.args.reading.now c.take_atom.new.reading c.walk_atoms.new.reading tt there c.in-Ok.ensures.lies)
+    c.walk_atoms.ensures.lies
