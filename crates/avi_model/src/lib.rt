@@ -34,17 +34,18 @@ ghost use Rattle.field_model.specs.Kind.{IsKind};
 ghost use Rattle.field_model.specs.Update.{effective};
 ghost use Rattle.avi_model.specs.Edited.{changes, fields, new_file};
 ghost use Rattle.avi_model.specs.Joined.{old_form};
-ghost use Rattle.avi_model.specs.Kind.{avi_kind};
+ghost use Rattle.avi_model.specs.Kind.{listed_kind};
 ghost use Rattle.avi_model.specs.Large.{too_large, new_avi};
 ghost use Rattle.avi_model.specs.Room.{Room};
 ghost use Rattle.avi_model.specs.Map.{parts_of, bytes_in, essence_spans, supers, standards};
 
 use part_tree as _;
 
-/// AVI files have the laws of a kind of files, for both bases of `idx1`, and for OpenDML indexes in any number of forms: an
-/// accepted edit that isn't too large makes the old file edited, in place where it has room.
-pub fn avi_files_are_a_kind()
-    ensures { IsKind avi_kind }
+/// AVI files whose fields are those of the lists of fields alone have the laws of a kind of files, for both bases of `idx1`, and for
+/// OpenDML indexes in any number of forms: an accepted edit that isn't too large makes the old file edited, in place where it has
+/// room.
+pub fn listed_files_are_a_kind()
+    ensures { IsKind listed_kind }
 {}
 
 /// An AVI file is supported exactly where no test of the reading order holds.
