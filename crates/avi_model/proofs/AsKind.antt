@@ -96,7 +96,7 @@ edited o e bytes s rules small =
     done x sets (inl none) = subst (λ (y : Items). EditedBy o y (edited_file o y)) (sym none) (nothing_done o s)
     done x sets (inr all) = items_law o x bytes s sets all
 
-all_effective : (f : FieldMap) (e : List EditItem) → effective f (effective f e) ≡ effective f e
+pub all_effective : (f : FieldMap) (e : List EditItem) → effective f (effective f e) ≡ effective f e
 all_effective f [] = refl
 all_effective f (i ∷ e) = go (has_effect f i) refl (all_effective f e)
   where
