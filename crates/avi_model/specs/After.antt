@@ -11,7 +11,7 @@ use Rattle.field_model.specs.Fields.{FieldMap, plain}
 use Rattle.field_model.specs.Update.{RawItem, raw_items, effective}
 use Rattle.container_model.specs.Chunk.{Chunk, spell}
 use Rattle.container_model.specs.Items.{is_nil}
-use Rattle.container_model.specs.Splice.{Cut, shift}
+use Rattle.container_model.specs.Splice.{Cut, end_of, shift}
 use Rattle.container_model.specs.Tests.{first}
 use Rattle.container_model.specs.Units.{shut, units, cuts}
 use Rattle.carrier_model.specs.RiffForm.{new_pad, pad_cut, fill_of}
@@ -84,8 +84,8 @@ moved_back old new c = record c { at = (c.at + length (spell old)) - length (spe
 -- the spans of a list with other names, among those before it and those behind it
 abbrev pub cuts_among : Names → Site → List Cut → List Cut
 cuts_among e s cs =
-    filter (λ (c : Cut). nat_lt c.at s.at) cs
-    ++ (hdrl_cuts e s ++ map (moved_back s.chunk (hdrl_named e s.ends s.chunk)) (filter (λ (c : Cut). nat_le s.at c.at) cs))
+    filter (λ (c : Cut). nat_le (end_of c) s.at) cs
+    ++ (hdrl_cuts e s ++ map (moved_back s.chunk (hdrl_named e s.ends s.chunk)) (filter (λ (c : Cut). nat_lt s.at (end_of c)) cs))
 
 -- hdrl is there, or it isn't
 abbrev pub cuts_by : Names → List Site → List Cut → List Cut
