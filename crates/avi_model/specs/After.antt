@@ -1,6 +1,6 @@
 -- An AVI file after an edit of its fields, the names of its streams among them: the names are set, and then the lists of fields are
 -- edited (AVI RIFF File Reference, strn; slots, padding and pads are this project's own).
-use Rattle.std.specs.Prelude.{ℕ, ◌+◌, ◌-◌, nat_lt, nat_le, List, [], ◌∷◌, ◌++◌, length, map, filter, Bool, ◌&&◌, Option, option_map, None, if◌then◌else◌}
+use Rattle.std.specs.Prelude.{ℕ, ◌+◌, List, [], ◌∷◌, ◌++◌, length, map, Bool, ◌&&◌, Option, option_map, None, if◌then◌else◌}
 use Rattle.std.specs.List.{flat_map}
 use Rattle.part_tree.specs.Large.{Size}
 use Rattle.part_tree.specs.declared.field.EditItem.{EditItem}
@@ -9,9 +9,9 @@ use Rattle.part_tree.specs.declared.field.FieldName.TheVariants.{Stream}
 use Rattle.part_tree.specs.declared.field.Value.{Value}
 use Rattle.field_model.specs.Fields.{FieldMap, plain}
 use Rattle.field_model.specs.Update.{RawItem, raw_items, effective}
-use Rattle.container_model.specs.Chunk.{Chunk, spell}
+use Rattle.container_model.specs.Chunk.{Chunk}
 use Rattle.container_model.specs.Items.{is_nil}
-use Rattle.container_model.specs.Splice.{Cut, end_of, shift}
+use Rattle.container_model.specs.Splice.{Cut, shift}
 use Rattle.container_model.specs.Tests.{first}
 use Rattle.container_model.specs.Units.{shut, units, cuts}
 use Rattle.carrier_model.specs.RiffForm.{new_pad, pad_cut, fill_of}
@@ -21,7 +21,7 @@ use Rattle.avi_model.specs.Edited.{fields, info_edit}
 use Rattle.avi_model.specs.Heads.{nth_names}
 use Rattle.avi_model.specs.Index.{renumbered}
 use Rattle.avi_model.specs.Large.{Check, checks_of}
-use Rattle.avi_model.specs.Named.{Name, Names, Site, named, hdrl_named, hdrl_site, hdrl_cuts, riff_of}
+use Rattle.avi_model.specs.Named.{Name, Names, named, name_cuts, riff_of}
 use Rattle.avi_model.specs.NewFile.{Items, new_cells, new_children}
 
 -- ---- fields
@@ -77,29 +77,9 @@ list_cuts a e =
     let n = named a e.names in
     cuts (fill_of (riff_of n)) 12 (units shut (new_cells n e.infos)) ++ pad_cut (8 + length (inner n.children n.left)) a.pad (pad_after a e)
 
--- a span behind a list that became longer or shorter, as it stands in the old file
-abbrev pub moved_back : Chunk → Chunk → Cut → Cut
-moved_back old new c = record c { at = (c.at + length (spell old)) - length (spell new) }
-
--- the spans of a list with other names, among those before it and those behind it
-abbrev pub cuts_among : Names → Site → List Cut → List Cut
-cuts_among e s cs =
-    filter (λ (c : Cut). nat_le (end_of c) s.at) cs
-    ++ (hdrl_cuts e s ++ map (moved_back s.chunk (hdrl_named e s.ends s.chunk)) (filter (λ (c : Cut). nat_lt s.at (end_of c)) cs))
-
--- hdrl is there, or it isn't
-abbrev pub cuts_by : Names → List Site → List Cut → List Cut
-cuts_by e [] cs = cs
-cuts_by e (s ∷ ss) cs = cuts_among e s cs
-
--- The spans of the old file that an edit replaces, by place: the sizes of hdrl and of the streams' lists, the slots of units, and the
--- pads of these lists and of the form.
-abbrev pub joined_cuts : Avi → Changes → List Cut
-joined_cuts a e = cuts_by e.names (hdrl_site a) (list_cuts a e)
-
--- how places move
+-- how places move: where the names put them, and from there where the lists of fields do
 abbrev pub goes : Avi → Changes → ℕ → ℕ
-goes a e p = shift (joined_cuts a e) p
+goes a e p = shift (list_cuts a e) (shift (name_cuts a e.names) p)
 
 -- ---- the new file
 
