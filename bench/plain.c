@@ -2,6 +2,8 @@
      plain journal FILE AT TEXT      writes TEXT over FILE at AT: a journal file, fsync, rename, fsync of the folder, the write,
                                      fsync, unlink
      plain durable FILE AT TEXT      the same, and a last fsync of the folder, as the editor does it: the journal stays away
+     plain same FILE AT TEXT         the same, and before the rename an fsync of the file and of the folder, as the editor does it:
+                                     what an earlier program left unsynced is safe before the first change
      plain table FILE FORM ROWS FIRST    writes a table of so many rows, whose places are FIRST, FIRST + 1000 and so on: `chunks`, as in
                                      a `stco` (4 bytes, the most significant first), or `index`, as in an `idx1` (16 bytes: the
                                      word `00dc`, the flags 16, the place, the length 1000, each the least significant first)
@@ -36,7 +38,9 @@ static void sync_folder(void) {
     close(folder);
 }
 
-static void journal(const char *name, uint64_t at, const char *text, int durable) {
+enum care { PLAIN, DURABLE, SAME };
+
+static void journal(const char *name, uint64_t at, const char *text, enum care care) {
     uint32_t length = strlen(text);
     int file = open("plain.tmp", O_WRONLY | O_CREAT | O_TRUNC, 0666);
     must(file >= 0, "journal");
@@ -45,14 +49,18 @@ static void journal(const char *name, uint64_t at, const char *text, int durable
     put(file, text, length);
     must(fsync(file) == 0, "fsync");
     close(file);
-    must(rename("plain.tmp", "plain.journal") == 0, "rename");
-    sync_folder();
     file = open(name, O_RDWR);
     must(file >= 0, name);
+    if (care == SAME) {
+        must(fsync(file) == 0, "fsync");
+        sync_folder();
+    }
+    must(rename("plain.tmp", "plain.journal") == 0, "rename");
+    sync_folder();
     must(pwrite(file, text, length, at) == (ssize_t)length, "pwrite");
     must(fsync(file) == 0, "fsync");
     must(unlink("plain.journal") == 0, "unlink");
-    if (durable)
+    if (care != PLAIN)
         sync_folder();
     close(file);
 }
@@ -120,9 +128,11 @@ static int run(char **words) {
 
 int main(int count, char **words) {
     if (count == 5 && strcmp(words[1], "journal") == 0)
-        journal(words[2], strtoull(words[3], NULL, 10), words[4], 0);
+        journal(words[2], strtoull(words[3], NULL, 10), words[4], PLAIN);
     else if (count == 5 && strcmp(words[1], "durable") == 0)
-        journal(words[2], strtoull(words[3], NULL, 10), words[4], 1);
+        journal(words[2], strtoull(words[3], NULL, 10), words[4], DURABLE);
+    else if (count == 5 && strcmp(words[1], "same") == 0)
+        journal(words[2], strtoull(words[3], NULL, 10), words[4], SAME);
     else if (count == 6 && strcmp(words[1], "table") == 0)
         table(words[2], strcmp(words[3], "index") == 0, strtoull(words[4], NULL, 10), strtoul(words[5], NULL, 10));
     else if (count == 4 && strcmp(words[1], "copy") == 0)

@@ -69,10 +69,12 @@ while [ $k -lt "$rounds" ]; do
     timed journal "$plain" journal f.wav 56 "$(printf '%020d' $((k + 1000)))" # the letters of the title
     edit place 20 in-place
     timed durable "$plain" durable f.wav 56 "$(printf '%020d' $((k + 2000)))"
+    timed same "$plain" same f.wav 56 "$(printf '%020d' $((k + 3000)))"
 done
 echo "edit in place: $(seconds place)"
-echo "    plain journal: $(seconds journal), ratio $(ratio place journal) (goal 1.0)"
+echo "    plain journal: $(seconds journal), ratio $(ratio place journal)"
 echo "    plain journal, its removal synced too: $(seconds durable), ratio $(ratio place durable)"
+echo "    the same, file and folder synced first: $(seconds same), ratio $(ratio place same) (goal 1.05)"
 echo "    $rounds runs of each in turn"
 
 rounds=${COPIES:-3}

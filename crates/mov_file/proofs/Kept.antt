@@ -1,17 +1,21 @@
 -- What is kept of an atom that is met.
-use Rattle.std.proofs.Common.{◌≡◌, ◌∙◌, ℕ, suc, ◌+◌, Bool, true, false, List, [], ◌∷◌, ◌++◌, length, map, refl, sym, ap, arith, Option}
+use Rattle.std.proofs.Common.{◌≡◌, ◌∙◌, ℕ, suc, ◌+◌, ◌-◌, Bool, true, false, List, [], ◌∷◌, ◌++◌, length, map, refl, sym, ap, arith, Option}
 use Rattle.std.specs.Prelude.{Some, None, ◌||◌, codes, if◌then◌else◌}
 use Rattle.std.specs.Str.{bytes_eq}
+use Rattle.std.proofs.lemmas.List.{append-nil}
+use Rattle.part_tree.specs.Letters.{four}
+use Rattle.part_tree.specs.Parts.{rest_parts}
 use Rattle.part_tree.specs.declared.names.FourCc.{FourCc}
 use Rattle.part_tree.specs.declared.names.Span.{Span}
 use Rattle.part_tree.specs.declared.part.Part.{Part}
 use Rattle.part_tree.specs.declared.part.Role.{Role}
-use Rattle.container_model.specs.Chunk.{Chunk, spell}
+use Rattle.part_tree.specs.declared.part.Role.TheVariants.{Rest}
+use Rattle.container_model.specs.Chunk.{Chunk, ends, spell}
 use Rattle.container_model.specs.Items.{listed}
-use Rattle.container_model.specs.Walk.{Step, chunk_at}
+use Rattle.container_model.specs.Walk.{Step, chunk_at, end_at}
 use Rattle.mov_model.specs.Atoms.{Place, file, user_data, moov, trak, mdia, minf, stbl, dinf}
 use Rattle.container_model.specs.Atoms.{atom, is_listed}
-use Rattle.mov_model.specs.Map.{body_span, essence_at, role_at}
+use Rattle.mov_model.specs.Map.{body_span, essence_at, part}
 use Rattle.mov_model.specs.Reading.{once}
 use Rattle.mov_model.specs.Why.{met_moov, met_user, names_met, track_number}
 use Rattle.qt_atoms.specs.declared.walker.AtomAt.{AtomAt}
@@ -89,15 +93,15 @@ names_more Minf at c before names met = met_more (once minf c.id) names (names_m
 names_more Stbl at c before names met = met_more (once stbl c.id) names (names_met before) met
 names_more Dinf at c before names met = met_more (once dinf c.id) names (names_met before) met
 
-role_same : (p : Place) (c : Chunk) (before : List (Step Place)) → role_at p before c ≡ role_by p (met_user before) (atom c.id [])
-role_same file c before = refl
-role_same user_data c before = refl
-role_same moov c before = refl
-role_same trak c before = refl
-role_same mdia c before = refl
-role_same minf c before = refl
-role_same stbl c before = refl
-role_same dinf c before = refl
+role_same : (p : Place) (seen : Bool) (c : Chunk) → role_by p seen c ≡ role_by p seen (atom c.id [])
+role_same file seen c = refl
+role_same user_data seen c = refl
+role_same moov seen c = refl
+role_same trak seen c = refl
+role_same mdia seen c = refl
+role_same minf seen c = refl
+role_same stbl seen c = refl
+role_same dinf seen c = refl
 
 essence_same : (p : Place) (at : ℕ) (c : Chunk) → essence_at (chunk_at p at c) ≡ (if is_top p (bytes_eq c.id (codes "mdat")) then body_span at c ∷ [] else [])
 essence_same file at c = refl
@@ -122,15 +126,13 @@ pub record Grown (h : Holder) (k : AtomAt) (old new : Reading) : Type 0 where
 span_is : (at len : ℕ) (s : Span) → at ≡ s.at → len ≡ s.len → record { at = at; len = len } ≡ s
 span_is at len s e f = ap (λ (a : ℕ). record { at = a; len = len }) e ∙ ap (λ (n : ℕ). record { at = s.at; len = n }) f
 
-pub kept : (h : Holder) (c : Chunk) (k : AtomAt) (before : List (Step Place)) (old new : Reading) → Stands c k → Knows old before → Grown h k old new → Remembers before (chunk_at (place_of h) k.at c) old new
+pub kept : (h : Holder) (c : Chunk) (k : AtomAt) (before : List (Step Place)) (old new : Reading) → Stands c k → Knows old before → Grown h k old new
+    → Remembers before (chunk_at (place_of h) k.at c) (part (role_by (place_of h) old.has_user c) k.at c ∷ []) old new
 kept h c k before old new st knows g =
     let p = place_of h in
     let id : k.kind.0 ≡ c.id = sym st.id in
     let span : k.body ≡ body_span k.at c = sym (span_is _ _ k.body st.body st.len) in
-    let role : role_by p old.has_user (atom k.kind.0 []) ≡ role_at p before c =
-    ap (λ (t : Bool). role_by p t (atom k.kind.0 [])) knows.user ∙ ap (λ (i : List ℕ). role_by p (met_user before) (atom i [])) id ∙ sym (role_same p c before)
-    in
-    let part : List Part → List Part = λ xs. old.parts.items ++ xs in
+    let role : role_by p old.has_user (atom k.kind.0 []) ≡ role_by p old.has_user c = ap (λ (i : List ℕ). role_by p old.has_user (atom i [])) id ∙ sym (role_same p old.has_user c) in
     record {
       knows = record {
         count = omega (arith, g.count, knows.count);
@@ -142,11 +144,49 @@ kept h c k before old new st knows g =
       };
       parts = g.parts
           ∙ ap (λ (r : Role). old.parts.items ++ record { id = k.kind; at = k.at; body = k.body; next = k.next; role = r } ∷ []) role
-          ∙ ap (λ (s : Span). old.parts.items ++ record { id = k.kind; at = k.at; body = s; next = k.next; role = role_at p before c } ∷ []) span
-          ∙ ap (λ (n : ℕ). old.parts.items ++ record { id = k.kind; at = k.at; body = body_span k.at c; next = n; role = role_at p before c } ∷ []) (sym st.behind)
-          ∙ ap (λ (i : List ℕ). old.parts.items ++ record { id = record { 0 = i }; at = k.at; body = body_span k.at c; next = k.at + length (spell c); role = role_at p before c } ∷ []) id;
+          ∙ ap (λ (s : Span). old.parts.items ++ record { id = k.kind; at = k.at; body = s; next = k.next; role = role_by p old.has_user c } ∷ []) span
+          ∙ ap (λ (n : ℕ). old.parts.items ++ record { id = k.kind; at = k.at; body = body_span k.at c; next = n; role = role_by p old.has_user c } ∷ []) (sym st.behind)
+          ∙ ap (λ (i : List ℕ). old.parts.items ++ record { id = record { 0 = i }; at = k.at; body = body_span k.at c; next = k.at + length (spell c); role = role_by p old.has_user c } ∷ []) id;
       mdats = g.mdats
           ∙ ap (λ (i : List ℕ). old.mdats.items ++ (if is_top p (bytes_eq i (codes "mdat")) then k.body ∷ [] else [])) id
           ∙ ap (λ (s : Span). old.mdats.items ++ (if is_top p (bytes_eq c.id (codes "mdat")) then s ∷ [] else [])) span
           ∙ ap (λ (xs : List Span). old.mdats.items ++ xs) (sym (essence_same p k.at c));
     }
+
+-- ---- a rest
+
+-- how the kept changes with a rest
+pub record Rested (ps : List Part) (old new : Reading) : Type 0 where
+  pub count : new.count ≡ old.count
+  pub moov_too : new.has_moov ≡ old.has_moov
+  pub user_too : new.has_user ≡ old.has_user
+  pub track : new.track ≡ old.track
+  pub names : new.names.items ≡ old.names.items
+  pub parts : new.parts.items ≡ old.parts.items ++ ps
+  pub mdats : new.mdats.items ≡ old.mdats.items
+
+pub rested : (p : Place) (at : ℕ) (before : List (Step Place)) (ps : List Part) (old new : Reading) → Knows old before → Rested ps old new → Remembers before (end_at p at ends) ps old new
+rested p at before ps old new knows r = record {
+  knows = record {
+    count = r.count ∙ knows.count;
+    moov = r.moov_too ∙ knows.moov;
+    user = r.user_too ∙ knows.user;
+    track = r.track ∙ knows.track;
+    names = λ y. ap (λ (xs : List FourCc). is_listed y (map (λ (i : FourCc). i.0) xs)) r.names ∙ knows.names y;
+  };
+  parts = r.parts;
+  mdats = r.mdats ∙ sym (append-nil old.mdats.items);
+}
+
+-- where nothing is left there is no rest
+pub none_left : (at end : ℕ) (left : List ℕ) → at + length left ≡ end → at ≡ end → rest_parts at left ≡ []
+none_left at end [] whole same = refl
+none_left at end (x ∷ left) whole same = absurd (omega (arith, whole, same))
+
+-- what is left is one rest up to the end
+pub some_left : (at end : ℕ) (left : List ℕ) → at + length left ≡ end → (at ≡ end → ⊥) → rest_parts at left ≡ record { id = four (0 ∷ 0 ∷ 0 ∷ 0 ∷ []); at = at; body = record { at = at; len = end - at }; next = end; role = Rest } ∷ []
+some_left at end [] whole other = absurd (other (omega (arith, whole)))
+some_left at end (x ∷ left) whole other =
+    let len : length (x ∷ left) ≡ end - at = omega (arith, whole) in
+    ap (λ (n : ℕ). record { id = four (0 ∷ 0 ∷ 0 ∷ 0 ∷ []); at = at; body = record { at = at; len = n }; next = at + length (x ∷ left); role = Rest } ∷ []) len
+    ∙ ap (λ (n : ℕ). record { id = four (0 ∷ 0 ∷ 0 ∷ 0 ∷ []); at = at; body = record { at = at; len = end - at }; next = n; role = Rest } ∷ []) whole

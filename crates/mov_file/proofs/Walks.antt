@@ -7,7 +7,9 @@ use Rattle.std.specs.List.{flat_map}
 use Rattle.std.specs.declared.result.Result.TheVariants.{Ok, Err}
 use Rattle.std.proofs.lemmas.Bool.{lt-leb}
 use Rattle.std.proofs.lemmas.List.{append-nil, take_all}
+use Rattle.part_tree.specs.Parts.{rest_parts}
 use Rattle.part_tree.specs.declared.part.Part.{Part}
+use Rattle.part_tree.specs.declared.part.Role.{Role}
 use Rattle.part_tree.specs.declared.names.Span.{Span}
 use Rattle.part_tree.specs.declared.why.Why.{Why}
 use Rattle.part_tree.specs.declared.why.Why.TheVariants.{CarrierBig, Compressed, Fragments, Reference, SizeSmall, TooManyParts, Truncated}
@@ -19,7 +21,7 @@ use Rattle.container_model.specs.Walk.{Step, along, body_at, chunk_at, end_at, w
 use Rattle.container_model.specs.Windows.{window}
 use Rattle.mov_model.specs.Atoms.{Place, dinf, either, file, format, mdia, minf, moov, opens, stbl, trak, user_data, when}
 use Rattle.container_model.specs.Atoms.{is_listed}
-use Rattle.mov_model.specs.Map.{essence_at, part_met, parts_from}
+use Rattle.mov_model.specs.Map.{essence_at, file_parts, inner_parts, kid_parts, opened_parts, part, role_in, run_parts, user_parts, with_inner}
 use Rattle.mov_model.specs.Why.{Test, atom_tests, end_tests, met_user, moov_id, moov_tests, step_tests, tests_from, track_tests}
 use Rattle.container_model.specs.Tests.{first}
 use Rattle.mov_model.specs.Reading.{atoms_met, inside_steps, kid_steps, row as steps}
@@ -33,7 +35,7 @@ use Rattle.mov_file.specs.declared.holder.Holder.TheVariants.{File, UserData, Mo
 use Rattle.qt_atoms.specs.Walk.{InOrder, atom_in, row}
 use Rattle.mov_file.proofs.Firsts.{first_before, first_behind}
 use Rattle.mov_file.specs.declared.reading.Reading.{Reading}
-use Rattle.mov_file.specs.Walked.{Knows, Remembers, Stands, Walked, Walks, after, file_steps, moov_in, steps_in}
+use Rattle.mov_file.specs.Walked.{Knows, Remembers, Stands, Told, Walked, Walks, after, atom_told, both, deep_told, end_told, file_told, kid_told, moov_told, role_by, run_told, told_in}
 use Rattle.mov_model.specs.Movie.{top_run}
 use Rattle.qt_text.specs.User.{udta}
 use Rattle.mov_model.proofs.Steps.{back, inner, inner_track, listed_back, track_ids, walk_kid}
@@ -44,10 +46,6 @@ pub tests_both : (before xs ys : List (Step Place)) → tests_from before (xs ++
 tests_both before [] ys = refl
 tests_both before (s ∷ xs) ys = ap (λ (ts : List Test). step_tests before s ++ ts) (tests_both (s ∷ before) xs ys) ∙ sym (append_assoc (step_tests before s) (tests_from (s ∷ before) xs) (tests_from (after (s ∷ before) xs) ys))
 
-pub parts_both : (before xs ys : List (Step Place)) → parts_from before (xs ++ ys) ≡ parts_from before xs ++ parts_from (after before xs) ys
-parts_both before [] ys = refl
-parts_both before (s ∷ xs) ys = ap (λ (ps : List Part). part_met before s ++ ps) (parts_both (s ∷ before) xs ys) ∙ sym (append_assoc (part_met before s) (parts_from (s ∷ before) xs) (parts_from (after (s ∷ before) xs) ys))
-
 pub after_both : (before xs ys : List (Step Place)) → after before (xs ++ ys) ≡ after (after before xs) ys
 after_both before [] ys = refl
 after_both before (s ∷ xs) ys = after_both (s ∷ before) xs ys
@@ -56,76 +54,82 @@ pub essence_both : (xs ys : List (Step Place)) → flat_map essence_at (xs ++ ys
 essence_both [] ys = refl
 essence_both (s ∷ xs) ys = ap (λ (ss : List Span). essence_at s ++ ss) (essence_both xs ys) ∙ sym (append_assoc (essence_at s) (flat_map essence_at xs) (flat_map essence_at ys))
 
+-- ---- what is told one behind the other
+
+both_assoc : (x y z : Told) → both (both x y) z ≡ both x (both y z)
+both_assoc x y z =
+    ap (λ (ss : List (Step Place)). record { steps = ss; parts = (x.parts ++ y.parts) ++ z.parts }) (append_assoc x.steps y.steps z.steps)
+    ∙ ap (λ (ps : List Part). record { steps = x.steps ++ (y.steps ++ z.steps); parts = ps }) (append_assoc x.parts y.parts z.parts)
+
+-- nothing
+abbrev pub none_told : Told
+none_told = record { steps = []; parts = [] }
+
+pub both_none : (x : Told) → both x none_told ≡ x
+both_none x =
+    ap (λ (ss : List (Step Place)). record { steps = ss; parts = x.parts ++ [] }) (append-nil x.steps) ∙ ap (λ (ps : List Part). record { steps = x.steps; parts = ps }) (append-nil x.parts)
+
 -- ---- what is read so far, and what is left
 
 -- What is kept is of some steps, and what is left behind them says the rest.
-pub record IsLeft (before whole rest : List (Step Place)) (old now : Reading) : Type 0 where
+pub record IsLeft (before : List (Step Place)) (whole rest : Told) (old now : Reading) : Type 0 where
   pub mid : List (Step Place)
   pub knows : Knows now mid
-  pub tests : first (tests_from before whole) ≡ first (tests_from mid rest)
-  pub parts : old.parts.items ++ parts_from before whole ≡ now.parts.items ++ parts_from mid rest
-  pub mdats : old.mdats.items ++ flat_map essence_at whole ≡ now.mdats.items ++ flat_map essence_at rest
-  pub all : after before whole ≡ after mid rest
+  pub tests : first (tests_from before whole.steps) ≡ first (tests_from mid rest.steps)
+  pub parts : old.parts.items ++ whole.parts ≡ now.parts.items ++ rest.parts
+  pub mdats : old.mdats.items ++ flat_map essence_at whole.steps ≡ now.mdats.items ++ flat_map essence_at rest.steps
+  pub all : after before whole.steps ≡ after mid rest.steps
 
-abbrev pub all_left : (before whole : List (Step Place)) (old : Reading) → Knows old before → IsLeft before whole whole old old
+abbrev pub all_left : (before : List (Step Place)) (whole : Told) (old : Reading) → Knows old before → IsLeft before whole whole old old
 all_left before whole old knows = record { mid = before; knows = knows; tests = refl; parts = refl; mdats = refl; all = refl }
 
 -- steps that are met
-pub left_more : (before whole rest steps more : List (Step Place)) (old now next : Reading) (left : IsLeft before whole rest old now) → rest ≡ steps ++ more → Walked left.mid steps now next → IsLeft before whole more old next
-left_more before whole rest steps more old now next left is w =
+pub left_more : (before : List (Step Place)) (whole rest t more : Told) (old now next : Reading) (left : IsLeft before whole rest old now) → rest ≡ both t more → Walked left.mid t now next → IsLeft before whole more old next
+left_more before whole rest t more old now next left is w =
     let mid = left.mid in
     record {
-      mid = after mid steps;
+      mid = after mid t.steps;
       knows = w.knows;
-      tests = left.tests ∙ ap (λ (ss : List (Step Place)). first (tests_from mid ss)) is ∙ ap first (tests_both mid steps more) ∙ first_behind (tests_from mid steps) (tests_from (after mid steps) more) w.tests;
-      parts = left.parts ∙ ap (λ (ss : List (Step Place)). now.parts.items ++ parts_from mid ss) is ∙ ap (λ (ps : List Part). now.parts.items ++ ps) (parts_both mid steps more)
-          ∙ sym (append_assoc now.parts.items (parts_from mid steps) (parts_from (after mid steps) more)) ∙ ap (λ (ps : List Part). ps ++ parts_from (after mid steps) more) (sym w.parts);
-      mdats = left.mdats ∙ ap (λ (ss : List (Step Place)). now.mdats.items ++ flat_map essence_at ss) is ∙ ap (λ (ss : List Span). now.mdats.items ++ ss) (essence_both steps more)
-          ∙ sym (append_assoc now.mdats.items (flat_map essence_at steps) (flat_map essence_at more)) ∙ ap (λ (ss : List Span). ss ++ flat_map essence_at more) (sym w.mdats);
-      all = left.all ∙ ap (after mid) is ∙ after_both mid steps more;
+      tests = left.tests ∙ ap (λ (r : Told). first (tests_from mid r.steps)) is ∙ ap first (tests_both mid t.steps more.steps) ∙ first_behind (tests_from mid t.steps) (tests_from (after mid t.steps) more.steps) w.tests;
+      parts = left.parts ∙ ap (λ (r : Told). now.parts.items ++ r.parts) is ∙ sym (append_assoc now.parts.items t.parts more.parts) ∙ ap (λ (ps : List Part). ps ++ more.parts) (sym w.parts);
+      mdats = left.mdats ∙ ap (λ (r : Told). now.mdats.items ++ flat_map essence_at r.steps) is ∙ ap (λ (ss : List Span). now.mdats.items ++ ss) (essence_both t.steps more.steps)
+          ∙ sym (append_assoc now.mdats.items (flat_map essence_at t.steps) (flat_map essence_at more.steps)) ∙ ap (λ (ss : List Span). ss ++ flat_map essence_at more.steps) (sym w.mdats);
+      all = left.all ∙ ap (λ (r : Told). after mid r.steps) is ∙ after_both mid t.steps more.steps;
     }
 
 -- steps that are refused
-pub left_fails : (before whole rest steps more : List (Step Place)) (old now next : Reading) (fault : ReadFault) (left : IsLeft before whole rest old now) → rest ≡ steps ++ more
-    → Walks left.mid steps now next (Err fault) → Walks before whole old next (Err fault)
-left_fails before whole rest steps more old now next (fault.Why w) left is h =
-    left.tests ∙ ap (λ (ss : List (Step Place)). first (tests_from left.mid ss)) is ∙ ap first (tests_both left.mid steps more) ∙ first_before (tests_from left.mid steps) (tests_from (after left.mid steps) more) w h
-left_fails before whole rest steps more old now next fault.Depot left is h = tt
-left_fails before whole rest steps more old now next fault.Memory left is h = tt
+pub left_fails : (before : List (Step Place)) (whole rest t more : Told) (old now next : Reading) (fault : ReadFault) (left : IsLeft before whole rest old now) → rest ≡ both t more
+    → Walks left.mid t now next (Err fault) → Walks before whole old next (Err fault)
+left_fails before whole rest t more old now next (fault.Why w) left is h =
+    left.tests ∙ ap (λ (r : Told). first (tests_from left.mid r.steps)) is ∙ ap first (tests_both left.mid t.steps more.steps) ∙ first_before (tests_from left.mid t.steps) (tests_from (after left.mid t.steps) more.steps) w h
+left_fails before whole rest t more old now next fault.Depot left is h = tt
+left_fails before whole rest t more old now next fault.Memory left is h = tt
 
--- nothing is left
-pub left_none : (before whole : List (Step Place)) (old now : Reading) → IsLeft before whole [] old now → Walked before whole old now
-left_none before whole old now left = record {
-  tests = left.tests;
-  knows = subst (Knows now) (sym left.all) left.knows;
-  parts = sym (left.parts ∙ append-nil now.parts.items);
-  mdats = sym (left.mdats ∙ append-nil now.mdats.items);
+-- the last steps are met
+pub left_none : (before : List (Step Place)) (whole rest : Told) (old now next : Reading) (left : IsLeft before whole rest old now) → Walked left.mid rest now next → Walked before whole old next
+left_none before whole rest old now next left w = record {
+  tests = left.tests ∙ w.tests;
+  knows = subst (Knows next) (sym left.all) w.knows;
+  parts = w.parts ∙ sym left.parts;
+  mdats = w.mdats ∙ sym left.mdats;
 }
 
 -- ---- one step
 
-pub end_walked : (mid : List (Step Place)) (p : Place) (at : ℕ) (now : Reading) → Knows now mid → first (end_tests p mid) ≡ None → Walked mid (end_at p at ends ∷ []) now now
-end_walked mid p at now knows none = record {
-  tests = ap first (append-nil (end_tests p mid)) ∙ none;
-  knows = record { count = knows.count; moov = knows.moov; user = knows.user; track = knows.track; names = knows.names };
-  parts = sym (append-nil now.parts.items);
-  mdats = sym (append-nil now.mdats.items);
-}
+pub end_refused : (mid : List (Step Place)) (p : Place) (at : ℕ) (over : List ℕ) (now next : Reading) (w : Why) → first (end_tests p mid) ≡ Some w → Walks mid (end_told p at ends over) now next (Err (fault.Why w))
+end_refused mid p at over now next w h = ap first (append-nil (end_tests p mid)) ∙ h
 
-pub end_refused : (mid : List (Step Place)) (p : Place) (at : ℕ) (now next : Reading) (w : Why) → first (end_tests p mid) ≡ Some w → Walks mid (end_at p at ends ∷ []) now next (Err (fault.Why w))
-end_refused mid p at now next w h = ap first (append-nil (end_tests p mid)) ∙ h
+pub small_refused : (mid : List (Step Place)) (p : Place) (at q : ℕ) (over : List ℕ) (now next : Reading) → at ≡ q → Walks mid (end_told p at bad_header over) now next (Err (fault.Why (SizeSmall q)))
+small_refused mid p at q over now next e = ap (λ (i : ℕ). Some (SizeSmall i)) e
 
-pub small_refused : (mid : List (Step Place)) (p : Place) (at q : ℕ) (now next : Reading) → at ≡ q → Walks mid (end_at p at bad_header ∷ []) now next (Err (fault.Why (SizeSmall q)))
-small_refused mid p at q now next e = ap (λ (i : ℕ). Some (SizeSmall i)) e
+pub cut_refused : (mid : List (Step Place)) (p : Place) (at q : ℕ) (over : List ℕ) (now next : Reading) → at ≡ q → Walks mid (end_told p at passes over) now next (Err (fault.Why (Truncated q)))
+cut_refused mid p at q over now next e = ap (λ (i : ℕ). Some (Truncated i)) e
 
-pub cut_refused : (mid : List (Step Place)) (p : Place) (at q : ℕ) (now next : Reading) → at ≡ q → Walks mid (end_at p at passes ∷ []) now next (Err (fault.Why (Truncated q)))
-cut_refused mid p at q now next e = ap (λ (i : ℕ). Some (Truncated i)) e
-
-pub step_walked : (before : List (Step Place)) (s : Step Place) (old new : Reading) → first (step_tests before s) ≡ None → Remembers before s old new → Walked before (s ∷ []) old new
-step_walked before s old new none r = record {
+pub step_walked : (before : List (Step Place)) (s : Step Place) (ps : List Part) (old new : Reading) → first (step_tests before s) ≡ None → Remembers before s ps old new → Walked before (record { steps = s ∷ []; parts = ps }) old new
+step_walked before s ps old new none r = record {
   tests = ap first (append-nil (step_tests before s)) ∙ none;
   knows = r.knows;
-  parts = r.parts ∙ ap (λ (ps : List Part). old.parts.items ++ ps) (sym (append-nil (part_met before s)));
+  parts = r.parts;
   mdats = r.mdats ∙ ap (λ (ss : List Span). old.mdats.items ++ ss) (sym (append-nil (essence_at s)));
 }
 
@@ -134,21 +138,40 @@ step_refused before s w h = ap first (append-nil (step_tests before s)) ∙ h
 
 -- ---- the steps of a range
 
-pub steps_more : (d : ℕ) (p : Place) (s : Level) (b : List ℕ) (at next end : ℕ) (c : Chunk) → row s b at end ≡ and_then c (row s b next end) → at + length (spell c) ≡ next
-    → steps_in d p s b at end ≡ walk format d p at c ++ steps_in d p s b next end
-steps_more d p s b at next end c step place =
-    let rest = row s b next end in
-    let first_kid = walk format d p at c in
-    let tail : List (Step Place) = end_at p (next + length (spell_all rest.chunks)) rest.stop ∷ [] in
-    let far : at + length (spell c ++ spell_all rest.chunks) ≡ next + length (spell_all rest.chunks) = omega (arith, place, length-append (spell c) (spell_all rest.chunks)) in
-    ap (λ (r : Run). along (walk format d p) at r.chunks ++ end_at p (at + length (spell_all r.chunks)) r.stop ∷ []) step
-    ∙ ap (λ (i : ℕ). (first_kid ++ along (walk format d p) (at + length (spell c)) rest.chunks) ++ end_at p i rest.stop ∷ []) far
-    ∙ ap (λ (i : ℕ). (first_kid ++ along (walk format d p) i rest.chunks) ++ tail) place
-    ∙ append_assoc first_kid (along (walk format d p) next rest.chunks) tail
+-- an atom that doesn't stand in moov, so many levels deep
+abbrev pub inner_told : ℕ → Place → ℕ → Chunk → Told
+inner_told d p at c = record { steps = walk format d p at c; parts = with_inner (inner_parts d) p at c }
 
-pub steps_stop : (d : ℕ) (p : Place) (s : Level) (b : List ℕ) (at end : ℕ) (stop : Stop) (w : List ℕ) → row s b at end ≡ stopped stop w → steps_in d p s b at end ≡ end_at p at stop ∷ []
-steps_stop d p s b at end stop w step =
-    ap (λ (r : Run). along (walk format d p) at r.chunks ++ end_at p (at + length (spell_all r.chunks)) r.stop ∷ []) step ∙ ap (λ (i : ℕ). end_at p i stop ∷ []) (omega arith)
+abbrev along_told : ℕ → Place → ℕ → List Chunk → Told
+along_told d p at cs = record { steps = along (walk format d p) at cs; parts = along (with_inner (inner_parts d) p) at cs }
+
+pub told_more : (d : ℕ) (p : Place) (s : Level) (b : List ℕ) (at next end : ℕ) (c : Chunk) → row s b at end ≡ and_then c (row s b next end) → at + length (spell c) ≡ next
+    → told_in d p s b at end ≡ both (inner_told d p at c) (told_in d p s b next end)
+told_more d p s b at next end c step place =
+    let rest = row s b next end in
+    let first_kid = inner_told d p at c in
+    let far : at + length (spell c ++ spell_all rest.chunks) ≡ next + length (spell_all rest.chunks) = omega (arith, place, length-append (spell c) (spell_all rest.chunks)) in
+    ap (run_told d p at) step
+    ∙ ap (λ (i : ℕ). both (both first_kid (along_told d p (at + length (spell c)) rest.chunks)) (end_told p i rest.stop rest.left)) far
+    ∙ ap (λ (i : ℕ). both (both first_kid (along_told d p i rest.chunks)) (end_told p (next + length (spell_all rest.chunks)) rest.stop rest.left)) place
+    ∙ both_assoc first_kid (along_told d p next rest.chunks) (end_told p (next + length (spell_all rest.chunks)) rest.stop rest.left)
+
+pub told_stop : (d : ℕ) (p : Place) (s : Level) (b : List ℕ) (at end : ℕ) (stop : Stop) (w : List ℕ) → row s b at end ≡ stopped stop w → told_in d p s b at end ≡ end_told p at stop w
+told_stop d p s b at end stop w step = ap (run_told d p at) step ∙ ap (λ (i : ℕ). end_told p i stop w) (omega arith)
+
+-- where an atom doesn't stand in moov its role doesn't depend on user data
+role_plain : (p : Place) (seen : Bool) (c : Chunk) → (p ≡ moov → ⊥) → role_by p seen c ≡ role_in p c
+role_plain file seen c other = refl
+role_plain user_data seen c other = refl
+role_plain moov seen c other = absurd (other refl)
+role_plain trak seen c other = refl
+role_plain mdia seen c other = refl
+role_plain minf seen c other = refl
+role_plain stbl seen c other = refl
+role_plain dinf seen c other = refl
+
+pub deep_plain : (seen : Bool) (d : ℕ) (p : Place) (at : ℕ) (c : Chunk) → (p ≡ moov → ⊥) → deep_told seen d p at c ≡ inner_told d p at c
+deep_plain seen d p at c other = ap (λ (r : Role). record { steps = walk format d p at c; parts = part r at c ∷ inner_parts d p at c }) (role_plain p seen c other)
 
 -- ---- why an atom is refused
 
@@ -202,16 +225,20 @@ stands b k end order len place = record {
 -- ---- an atom and those in it
 
 -- what is in an atom, so many levels deep
-abbrev pub inner_steps : ℕ → Place → ℕ → Chunk → List (Step Place)
+abbrev inner_steps : ℕ → Place → ℕ → Chunk → List (Step Place)
 inner_steps zero p at c = []
 inner_steps (suc d) p at c = walk_at format (walk format d) at c (opens p c.id (take 4 c.body))
 
-pub walk_split : (d : ℕ) (p : Place) (at : ℕ) (c : Chunk) → walk format d p at c ≡ (chunk_at p at c ∷ []) ++ inner_steps d p at c
-unfolding walk
-walk_split zero p at c = refl
-walk_split (suc d) p at c = refl
+abbrev pub inside_told : ℕ → Place → ℕ → Chunk → Told
+inside_told d p at c = record { steps = inner_steps d p at c; parts = inner_parts d p at c }
 
-pub none_deep : (d : ℕ) (p : Place) (at : ℕ) (c : Chunk) → d ≡ 0 → inner_steps d p at c ≡ []
+pub deep_split : (seen : Bool) (d : ℕ) (p : Place) (at : ℕ) (c : Chunk) → deep_told seen d p at c ≡ both (atom_told seen p at c) (inside_told d p at c)
+unfolding walk
+deep_split seen zero p at c = refl
+deep_split seen (suc d) p at c = refl
+
+pub none_deep : (d : ℕ) (p : Place) (at : ℕ) (c : Chunk) → d ≡ 0 → inside_told d p at c ≡ none_told
+unfolding inner_parts
 none_deep zero p at c e = refl
 none_deep (suc d) p at c e = absurd (omega arith)
 
@@ -225,21 +252,28 @@ opens_any minf id w = refl
 opens_any stbl id w = refl
 opens_any dinf id w = refl
 
-pub none_inner : (d : ℕ) (p : Place) (at : ℕ) (c : Chunk) → None ≡ opens p c.id [] → inner_steps d p at c ≡ []
-none_inner zero p at c e = refl
-none_inner (suc d) p at c e = ap (walk_at format (walk format d) at c) (opens_any p c.id (take 4 c.body) ∙ sym e)
+-- what is in an atom that is opened or isn't
+abbrev at_told : ℕ → ℕ → Chunk → Option Place → Told
+at_told d at c o = record { steps = walk_at format (walk format d) at c o; parts = opened_parts (with_inner (inner_parts d)) at c o }
 
-some_steps : (d : ℕ) (q : Place) (at : ℕ) (c : Chunk) (b : List ℕ) (k : AtomAt) → body_at at c ≡ k.body.at → c.body ≡ slice b k.body.at k.body.len
-    → walk_at format (walk format d) at c (Some q) ≡ steps_in d q inside b k.body.at (k.body.at + k.body.len)
-some_steps d q at c b k place body =
+pub none_inner : (d : ℕ) (p : Place) (at : ℕ) (c : Chunk) → None ≡ opens p c.id [] → inside_told d p at c ≡ none_told
+unfolding inner_parts
+none_inner zero p at c e = refl
+none_inner (suc d) p at c e = ap (at_told d at c) (opens_any p c.id (take 4 c.body) ∙ sym e)
+
+some_told : (d : ℕ) (q : Place) (at : ℕ) (c : Chunk) (b : List ℕ) (k : AtomAt) → body_at at c ≡ k.body.at → c.body ≡ slice b k.body.at k.body.len
+    → at_told d at c (Some q) ≡ told_in d q inside b k.body.at (k.body.at + k.body.len)
+some_told d q at c b k place body =
     let run : chunks atom_front inside c.body ≡ row inside b k.body.at (k.body.at + k.body.len) =
     ap (chunks atom_front inside) (body ∙ ap (λ (n : ℕ). take n (drop k.body.at b)) (omega arith))
     in
-    let far : (n : ℕ) → body_at at c + (0 + n) ≡ k.body.at + n = λ n. omega (arith, place) in
-    let near : body_at at c + 0 ≡ k.body.at = omega (arith, place) in
-    ap (λ (i : ℕ). along (walk format d q) i (chunks atom_front inside c.body).chunks ++ end_at q (body_at at c + (0 + length (spell_all (chunks atom_front inside c.body).chunks))) (chunks atom_front inside c.body).stop ∷ []) near
-    ∙ ap (λ (i : ℕ). along (walk format d q) k.body.at (chunks atom_front inside c.body).chunks ++ end_at q i (chunks atom_front inside c.body).stop ∷ []) (far (length (spell_all (chunks atom_front inside c.body).chunks)))
-    ∙ ap (λ (r : Run). along (walk format d q) k.body.at r.chunks ++ end_at q (k.body.at + length (spell_all r.chunks)) r.stop ∷ []) run
+    let r = chunks atom_front inside c.body in
+    let near : body_at at c + 0 ≡ body_at at c = omega arith in
+    let far : 0 + length (spell_all r.chunks) ≡ length (spell_all r.chunks) = omega arith in
+    ap (λ (i : ℕ). record { steps = along (walk format d q) (body_at at c + 0) r.chunks ++ end_at q (body_at at c + i) r.stop ∷ []; parts = run_parts (with_inner (inner_parts d) q) (body_at at c) r }) far
+    ∙ ap (λ (i : ℕ). record { steps = along (walk format d q) i r.chunks ++ end_at q (body_at at c + length (spell_all r.chunks)) r.stop ∷ []; parts = run_parts (with_inner (inner_parts d) q) (body_at at c) r }) near
+    ∙ ap (λ (x : Run). run_told d q (body_at at c) x) run
+    ∙ ap (λ (i : ℕ). run_told d q i (row inside b k.body.at (k.body.at + k.body.len))) place
 
 level_at : Place → Level
 level_at file = top
@@ -276,51 +310,91 @@ opens_level minf id r e = go (bytes_eq id (codes "stbl")) e
 opens_level stbl id r e = absurd cc
 opens_level dinf id r e = absurd cc
 
+when_plain : (t : Bool) (q : Place) → (q ≡ moov → ⊥) → when t q ≡ Some moov → ⊥
+when_plain true q other e = other cc
+when_plain false q other e = absurd cc
+
+-- nothing is opened as moov
+pub opens_plain : (p : Place) (id : List ℕ) (q : Place) → Some q ≡ opens p id [] → q ≡ moov → ⊥
+opens_plain p id q e is = go p (sym e ∙ ap (λ (x : Place). Some x) is)
+  where
+    go : (p : Place) → opens p id [] ≡ Some moov → ⊥
+    go file f = absurd cc
+    go user_data f = absurd cc
+    go moov f = when_plain (bytes_eq id (codes "trak")) trak (λ x. absurd cc) f
+    go trak f = when_plain (bytes_eq id (codes "mdia")) mdia (λ x. absurd cc) f
+    go mdia f = when_plain (bytes_eq id (codes "minf")) minf (λ x. absurd cc) f
+    go minf f = or_dinf (bytes_eq id (codes "stbl")) f
+      where
+        or_dinf : (t : Bool) → either t stbl (when (bytes_eq id (codes "dinf")) dinf) ≡ Some moov → ⊥
+        or_dinf true x = absurd cc
+        or_dinf false x = when_plain (bytes_eq id (codes "dinf")) dinf (λ y. absurd cc) x
+    go stbl f = absurd cc
+    go dinf f = absurd cc
+
 pub some_inner : (d : ℕ) (p : Place) (h : Holder) (c : Chunk) (b : List ℕ) (k : AtomAt) → (d ≡ 0 → ⊥) → Some (place_of h) ≡ opens p c.id [] → body_at k.at c ≡ k.body.at → c.body ≡ slice b k.body.at k.body.len
-    → inner_steps d p k.at c ≡ steps_in (d - 1) (place_of h) (level_in h) b k.body.at (k.body.at + k.body.len)
+    → inside_told d p k.at c ≡ told_in (d - 1) (place_of h) (level_in h) b k.body.at (k.body.at + k.body.len)
+unfolding inner_parts
 some_inner zero p h c b k some e place body = absurd (some refl)
 some_inner (suc d) p h c b k some e place body =
     let less : suc d - 1 ≡ d = omega arith in
     let level : level_in h ≡ inside = holder_level h ∙ opens_level p c.id (place_of h) (sym e) in
-    ap (walk_at format (walk format d) k.at c) (opens_any p c.id (take 4 c.body) ∙ sym e) ∙ some_steps d (place_of h) k.at c b k place body
-    ∙ ap (λ (s : Level). steps_in d (place_of h) s b k.body.at (k.body.at + k.body.len)) (sym level)
-    ∙ ap (λ (i : ℕ). steps_in i (place_of h) (level_in h) b k.body.at (k.body.at + k.body.len)) (sym less)
+    ap (at_told d k.at c) (opens_any p c.id (take 4 c.body) ∙ sym e) ∙ some_told d (place_of h) k.at c b k place body
+    ∙ ap (λ (s : Level). told_in d (place_of h) s b k.body.at (k.body.at + k.body.len)) (sym level)
+    ∙ ap (λ (i : ℕ). told_in i (place_of h) (level_in h) b k.body.at (k.body.at + k.body.len)) (sym less)
 
-pub walks_both : (before xs ys : List (Step Place)) (a b c : Reading) (r : Result Unit ReadFault) → Walked before xs a b → Walks (after before xs) ys b c r → Walks before (xs ++ ys) a c r
-walks_both before xs ys a b c (Ok _) w v = record {
-  tests = ap first (tests_both before xs ys) ∙ first_behind (tests_from before xs) (tests_from (after before xs) ys) w.tests ∙ v.tests;
-  knows = subst (Knows c) (sym (after_both before xs ys)) v.knows;
-  parts = v.parts ∙ ap (λ (ps : List Part). ps ++ parts_from (after before xs) ys) w.parts ∙ append_assoc a.parts.items (parts_from before xs) (parts_from (after before xs) ys) ∙ ap (λ (ps : List Part). a.parts.items ++ ps) (sym (parts_both before xs ys));
-  mdats = v.mdats ∙ ap (λ (ss : List Span). ss ++ flat_map essence_at ys) w.mdats ∙ append_assoc a.mdats.items (flat_map essence_at xs) (flat_map essence_at ys) ∙ ap (λ (ss : List Span). a.mdats.items ++ ss) (sym (essence_both xs ys));
+pub walks_both : (before : List (Step Place)) (x y : Told) (a b c : Reading) (r : Result Unit ReadFault) → Walked before x a b → Walks (after before x.steps) y b c r → Walks before (both x y) a c r
+walks_both before x y a b c (Ok _) w v = record {
+  tests = ap first (tests_both before x.steps y.steps) ∙ first_behind (tests_from before x.steps) (tests_from (after before x.steps) y.steps) w.tests ∙ v.tests;
+  knows = subst (Knows c) (sym (after_both before x.steps y.steps)) v.knows;
+  parts = v.parts ∙ ap (λ (ps : List Part). ps ++ y.parts) w.parts ∙ append_assoc a.parts.items x.parts y.parts;
+  mdats = v.mdats ∙ ap (λ (ss : List Span). ss ++ flat_map essence_at y.steps) w.mdats ∙ append_assoc a.mdats.items (flat_map essence_at x.steps) (flat_map essence_at y.steps)
+      ∙ ap (λ (ss : List Span). a.mdats.items ++ ss) (sym (essence_both x.steps y.steps));
 }
-walks_both before xs ys a b c (Err (fault.Why why)) w v = ap first (tests_both before xs ys) ∙ first_behind (tests_from before xs) (tests_from (after before xs) ys) w.tests ∙ v
-walks_both before xs ys a b c (Err fault.Depot) w v = tt
-walks_both before xs ys a b c (Err fault.Memory) w v = tt
+walks_both before x y a b c (Err (fault.Why why)) w v =
+    ap first (tests_both before x.steps y.steps) ∙ first_behind (tests_from before x.steps) (tests_from (after before x.steps) y.steps) w.tests ∙ v
+walks_both before x y a b c (Err fault.Depot) w v = tt
+walks_both before x y a b c (Err fault.Memory) w v = tt
 
 -- ---- the atoms of the file, of user data and of moov
 
-pub flat : (p : Place) (at : ℕ) (cs : List Chunk) → steps p at cs ≡ along (walk format 0 p) at cs
+flat : (p : Place) (at : ℕ) (cs : List Chunk) → steps p at cs ≡ along (walk format 0 p) at cs
 unfolding walk
 flat p at [] = refl
 flat p at (c ∷ cs) = ap (λ (ss : List (Step Place)). chunk_at p at c ∷ ss) (flat p (at + length (spell c)) cs)
 
-pub user_steps : (at : ℕ) (c : Chunk) (b : List ℕ) (k : AtomAt) → body_at at c ≡ k.body.at → c.body ≡ slice b k.body.at k.body.len
-    → kid_steps true at c ≡ (chunk_at moov at c ∷ []) ++ steps_in 0 user_data user b k.body.at (k.body.at + k.body.len)
-user_steps at c b k place body =
+flat_parts : (p : Place) (at : ℕ) (cs : List Chunk) → along (λ at c. part (role_in p c) at c ∷ []) at cs ≡ along (with_inner (inner_parts 0) p) at cs
+unfolding inner_parts
+flat_parts p at [] = refl
+flat_parts p at (c ∷ cs) = ap (λ (ps : List Part). part (role_in p c) at c ∷ ps) (flat_parts p (at + length (spell c)) cs)
+
+-- atoms of which none is opened, and their end
+flat_told : (p : Place) (at : ℕ) (r : Run)
+    → record { steps = steps p at r.chunks ++ end_at p (at + length (spell_all r.chunks)) r.stop ∷ []; parts = run_parts (λ at c. part (role_in p c) at c ∷ []) at r } ≡ run_told 0 p at r
+flat_told p at r =
+    let end = at + length (spell_all r.chunks) in
+    ap (λ (ss : List (Step Place)). record { steps = ss ++ end_at p end r.stop ∷ []; parts = run_parts (λ at c. part (role_in p c) at c ∷ []) at r }) (flat p at r.chunks)
+    ∙ ap (λ (ps : List Part). record { steps = along (walk format 0 p) at r.chunks ++ end_at p end r.stop ∷ []; parts = ps ++ rest_parts end r.left }) (flat_parts p at r.chunks)
+
+pub user_told : (seen : Bool) (at : ℕ) (c : Chunk) (b : List ℕ) (k : AtomAt) → body_at at c ≡ k.body.at → c.body ≡ slice b k.body.at k.body.len
+    → kid_told seen true at c ≡ both (atom_told seen moov at c) (told_in 0 user_data user b k.body.at (k.body.at + k.body.len))
+user_told seen at c b k place body =
     let run : chunks atom_front user c.body ≡ row user b k.body.at (k.body.at + k.body.len) =
     ap (chunks atom_front user) (body ∙ ap (λ (n : ℕ). take n (drop k.body.at b)) (omega arith))
     in
-    ap (λ (r : Run). chunk_at moov at c ∷ (steps user_data (body_at at c) r.chunks ++ end_at user_data (body_at at c + length (spell_all r.chunks)) r.stop ∷ [])) run
-    ∙ ap (λ (i : ℕ). chunk_at moov at c ∷ (steps user_data i (row user b k.body.at (k.body.at + k.body.len)).chunks ++ end_at user_data (i + length (spell_all (row user b k.body.at (k.body.at + k.body.len)).chunks)) (row user b k.body.at (k.body.at + k.body.len)).stop ∷ [])) place
-    ∙ ap (λ (ss : List (Step Place)). chunk_at moov at c ∷ (ss ++ end_at user_data (k.body.at + length (spell_all (row user b k.body.at (k.body.at + k.body.len)).chunks)) (row user b k.body.at (k.body.at + k.body.len)).stop ∷ [])) (flat user_data k.body.at (row user b k.body.at (k.body.at + k.body.len)).chunks)
+    let inner : record { steps = steps user_data (body_at at c) (udta.opening c).chunks ++ end_at user_data (body_at at c + length (spell_all (udta.opening c).chunks)) (udta.opening c).stop ∷ []; parts = user_parts at c } ≡ told_in 0 user_data user b k.body.at (k.body.at + k.body.len) =
+    flat_told user_data (body_at at c) (chunks atom_front user c.body) ∙ ap (run_told 0 user_data (body_at at c)) run
+    ∙ ap (λ (i : ℕ). run_told 0 user_data i (row user b k.body.at (k.body.at + k.body.len))) place
+    in
+    ap (both (atom_told seen moov at c)) inner
 
-pub file_are : (b : List ℕ) (len : ℕ) → length b ≡ len → file_steps b ≡ steps_in 0 file top b 0 (0 + len)
+pub file_are : (b : List ℕ) (len : ℕ) → length b ≡ len → file_told b ≡ told_in 0 file top b 0 (0 + len)
 file_are b len is =
     let whole : b ≡ window b 0 (0 + len) = sym (ap (λ (n : ℕ). take n b) (omega (arith, is)) ∙ take_all (length b) b (omega arith)) in
     let run : top_run b ≡ row top b 0 (0 + len) = ap (chunks atom_front top) whole in
-    ap (λ (r : Run). steps file 0 r.chunks ++ end_at file (length (spell_all r.chunks)) r.stop ∷ []) run
-    ∙ ap (λ (ss : List (Step Place)). ss ++ end_at file (length (spell_all (row top b 0 (0 + len)).chunks)) (row top b 0 (0 + len)).stop ∷ []) (flat file 0 (row top b 0 (0 + len)).chunks)
-    ∙ ap (λ (i : ℕ). along (walk format 0 file) 0 (row top b 0 (0 + len)).chunks ++ end_at file i (row top b 0 (0 + len)).stop ∷ []) (omega arith)
+    let far : length (spell_all (top_run b).chunks) ≡ 0 + length (spell_all (top_run b).chunks) = omega arith in
+    ap (λ (i : ℕ). record { steps = steps file 0 (top_run b).chunks ++ end_at file i (top_run b).stop ∷ []; parts = file_parts (top_run b) }) far
+    ∙ flat_told file 0 (top_run b) ∙ ap (run_told 0 file 0) run
 
 back_after : (ss before : List (Step Place)) → back ss before ≡ after before ss
 back_after [] before = refl
@@ -345,19 +419,24 @@ user_after t at c mid =
     swap false true = refl
     swap false false = refl
 
+-- the atoms of moov from a place on, behind user data or not
+abbrev kids_told : Bool → ℕ → List Chunk → Told
+kids_told seen at cs = record { steps = inside_steps seen at cs; parts = kid_parts seen at cs }
+
+abbrev moov_run : Bool → ℕ → Run → Told
+moov_run seen at r = both (kids_told seen at r.chunks) (end_told moov (at + length (spell_all r.chunks)) r.stop r.left)
+
 pub moov_more : (seen : Bool) (b : List ℕ) (at next end : ℕ) (c : Chunk) → row inside b at end ≡ and_then c (row inside b next end) → at + length (spell c) ≡ next
-    → moov_in seen b at end ≡ kid_steps (not seen && bytes_eq c.id (codes "udta")) at c ++ moov_in (seen || bytes_eq c.id (codes "udta")) b next end
+    → moov_told seen b at end ≡ both (kid_told seen (not seen && bytes_eq c.id (codes "udta")) at c) (moov_told (seen || bytes_eq c.id (codes "udta")) b next end)
 moov_more seen b at next end c step place =
     let rest = row inside b next end in
-    let kid = kid_steps (not seen && bytes_eq c.id (codes "udta")) at c in
+    let kid = kid_told seen (not seen && bytes_eq c.id (codes "udta")) at c in
     let met_too = seen || bytes_eq c.id (codes "udta") in
-    let tail : List (Step Place) = end_at moov (next + length (spell_all rest.chunks)) rest.stop ∷ [] in
     let far : at + length (spell c ++ spell_all rest.chunks) ≡ next + length (spell_all rest.chunks) = omega (arith, place, length-append (spell c) (spell_all rest.chunks)) in
-    ap (λ (r : Run). inside_steps seen at r.chunks ++ end_at moov (at + length (spell_all r.chunks)) r.stop ∷ []) step
-    ∙ ap (λ (i : ℕ). (kid ++ inside_steps met_too (at + length (spell c)) rest.chunks) ++ end_at moov i rest.stop ∷ []) far
-    ∙ ap (λ (i : ℕ). (kid ++ inside_steps met_too i rest.chunks) ++ tail) place
-    ∙ append_assoc kid (inside_steps met_too next rest.chunks) tail
+    ap (moov_run seen at) step
+    ∙ ap (λ (i : ℕ). both (both kid (kids_told met_too (at + length (spell c)) rest.chunks)) (end_told moov i rest.stop rest.left)) far
+    ∙ ap (λ (i : ℕ). both (both kid (kids_told met_too i rest.chunks)) (end_told moov (next + length (spell_all rest.chunks)) rest.stop rest.left)) place
+    ∙ both_assoc kid (kids_told met_too next rest.chunks) (end_told moov (next + length (spell_all rest.chunks)) rest.stop rest.left)
 
-pub moov_stop : (seen : Bool) (b : List ℕ) (at end : ℕ) (stop : Stop) (w : List ℕ) → row inside b at end ≡ stopped stop w → moov_in seen b at end ≡ end_at moov at stop ∷ []
-moov_stop seen b at end stop w step =
-    ap (λ (r : Run). inside_steps seen at r.chunks ++ end_at moov (at + length (spell_all r.chunks)) r.stop ∷ []) step ∙ ap (λ (i : ℕ). end_at moov i stop ∷ []) (omega arith)
+pub moov_stop : (seen : Bool) (b : List ℕ) (at end : ℕ) (stop : Stop) (w : List ℕ) → row inside b at end ≡ stopped stop w → moov_told seen b at end ≡ end_told moov at stop w
+moov_stop seen b at end stop w step = ap (moov_run seen at) step ∙ ap (λ (i : ℕ). end_told moov i stop w) (omega arith)

@@ -1,11 +1,12 @@
 // What was met so far.
 ghost use Rattle.std.specs.Prelude.{◌≡◌, ◌≤◌, ◌<◌, ◌+◌, ◌++◌, ◌∷◌, ◌&&◌, ◌||◌, ℕ, List, [], Bool, map, length, codes, false, OnOk, if◌then◌else◌};
 ghost use Rattle.std.specs.Str.{bytes_eq};
-ghost use Rattle.container_model.specs.Chunk.{Chunk, spell};
-ghost use Rattle.container_model.specs.Walk.{Step, chunk_at};
+ghost use Rattle.part_tree.specs.Parts.{rest_parts};
+ghost use Rattle.container_model.specs.Chunk.{Chunk, ends, spell};
+ghost use Rattle.container_model.specs.Walk.{Step, chunk_at, end_at};
 ghost use Rattle.mov_model.specs.Atoms.{Place, is_padding};
 ghost use Rattle.container_model.specs.Atoms.{atom, is_listed};
-ghost use Rattle.mov_model.specs.Map.{file_role, moov_role};
+ghost use Rattle.mov_model.specs.Map.{file_role, moov_role, part};
 ghost use Rattle.mov_file.specs.Holder.{place_of};
 ghost use Rattle.mov_file.specs.Walked.{Few, Knows, Remembers, Stands, is_moov_kid, is_top, names_after, role_by};
 
@@ -165,7 +166,9 @@ pub fn remember(reading: &mut Reading, holder: Holder, atom: &AtomAt) -> Result<
     requires few { Few reading.old }
     requires room { reading.old.count < 65536 }
     ensures few { OnOk result (Few reading.new) }
-    ensures remembers { (c : Chunk) (before : List (Step Place)) → Stands c atom.now → Knows reading.old before → OnOk result (Remembers before (chunk_at (place_of holder) atom.now.at c) reading.old reading.new) }
+    ensures remembers { (c : Chunk) (before : List (Step Place)) → Stands c atom.now → Knows reading.old before
+        → OnOk result (Remembers before (chunk_at (place_of holder) atom.now.at c) (part (role_by (place_of holder) reading.old.has_user c) atom.now.at c ∷ [])
+        reading.old reading.new) }
 {
     let part = Part {
         id: atom.kind,
@@ -185,6 +188,30 @@ pub fn remember(reading: &mut Reading, holder: Holder, atom: &AtomAt) -> Result<
     reading.has_user = reading.has_user | is_of_moov(holder, atom.kind.is(b"udta"));
     reading.track = track_after(reading.track, holder, atom.kind);
     Ok(())
+}
+
+// Takes the bytes from a place up to an end as a rest, if there are some.
+pub fn keep_rest(reading: &mut Reading, at: u64, end: u64) -> Result<(), NoMemory>
+    requires order { at ≤ end }
+    requires few { Few reading.old }
+    ensures few { OnOk result (Few reading.new) }
+    ensures remembers { (left : List ℕ) (before : List (Step Place)) (p : Place) → at + length left ≡ end → Knows reading.old before
+        → OnOk result (Remembers before (end_at p at ends) (rest_parts at left) reading.old reading.new) }
+{
+    if at == end {
+        return Ok(());
+    }
+    let rest = Part {
+        id: FourCc([0; 4]),
+        at,
+        body: Span { at, len: end - at },
+        next: end,
+        role: Role::Rest,
+    };
+    match reading.parts.push(rest) {
+        Err(_) => Err(NoMemory),
+        Ok(()) => Ok(()),
+    }
 }
 
 // Whether a name is among those that were met in the track.

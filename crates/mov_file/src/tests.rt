@@ -48,7 +48,7 @@ fn walk<D: Depot>(alloc: Global, depot: &mut D) -> Result<Reading, ReadFault> {
 fn meets_each_atom_in_order(rt: HostRuntime) -> Result<(), Fail> {
     let mut depot = depot_of(rt.alloc(), &MOVIE)?;
     let reading = walk(rt.alloc(), &mut depot)?;
-    let places = [0, 12, 107, 20, 28, 36, 44, 52, 72, 80, 88];
+    let places = [0, 12, 107, 20, 28, 36, 44, 52, 72, 80, 88, 103];
     assert_eq!(rt; reading.parts.len(), places.len());
     for (part, at) in reading.parts.iter().zip(&places) {
         assert_eq!(rt; part.at, *at);
@@ -58,6 +58,8 @@ fn meets_each_atom_in_order(rt: HostRuntime) -> Result<(), Fail> {
     assert_eq!(rt; reading.parts[8].role, Role::Padding);
     assert_eq!(rt; reading.parts[9].role, Role::UserData);
     assert_eq!(rt; reading.parts[10].role, Role::Opaque);
+    assert_eq!(rt; reading.parts[11].role, Role::Rest);
+    assert_eq!(rt; reading.parts[11].next, 107);
     assert_eq!(rt;
         reading.mdats.as_slice(),
         [Span { at: 115, len: 4 }].as_slice()

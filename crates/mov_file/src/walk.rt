@@ -4,18 +4,17 @@ ghost use Rattle.me_disk.specs.Causes.{Rose};
 ghost use Rattle.me_disk.specs.Steps.{HasCause, ReadsOnly};
 ghost use Rattle.me_disk.specs.Holds.{Holds, Inside};
 ghost use Rattle.container_model.specs.Chunk.{ends, spell};
-ghost use Rattle.container_model.specs.Walk.{Step, chunk_at, end_at, walk};
+ghost use Rattle.container_model.specs.Walk.{Step, chunk_at};
 ghost use Rattle.std.specs.Str.{bytes_eq};
-ghost use Rattle.mov_model.specs.Atoms.{Place, format};
-ghost use Rattle.mov_model.specs.Reading.{kid_steps};
+ghost use Rattle.mov_model.specs.Atoms.{Place, moov};
 ghost use Rattle.mov_model.specs.Why.{end_tests, met_moov, step_tests};
 ghost use Rattle.container_model.specs.Tests.{first};
 ghost use Rattle.qt_atoms.specs.Walk.{InOrder, atom_in};
 ghost use Rattle.mov_file.specs.Holder.{level_in, place_of};
-ghost use Rattle.mov_file.specs.Walked.{Few, Knows, Walks, file_steps, moov_in, steps_in};
+ghost use Rattle.mov_file.specs.Walked.{Few, Knows, Walks, atom_told, deep_told, file_told, kid_told, moov_told, told_in};
 
 use crate::holder::{Holder, opened, parent};
-use crate::reading::{Reading, remember};
+use crate::reading::{Reading, keep_rest, remember};
 use crate::refusals::{file_why, moov_why};
 use crate::tables::track_why;
 use me_disk::{Depot, DepotFault};
@@ -61,7 +60,9 @@ fn take_atom<D: Depot>(
     requires small { atom.now.next < 2 ^ 63 }
     requires order { InOrder atom.now.at atom.now.next atom.now }
     requires few { Few reading.old }
-    ensures took { (b : List ℕ) (before : List (Step Place)) → Holds (D.disk depot.old) b → atom.now.at + length (spell (atom_in b atom.now)) ≡ atom.now.next → Knows reading.old before → Walks before (chunk_at (place_of holder) atom.now.at (atom_in b atom.now) ∷ []) reading.old reading.new result }
+    ensures took { (b : List ℕ) (before : List (Step Place)) → Holds (D.disk depot.old) b
+        → atom.now.at + length (spell (atom_in b atom.now)) ≡ atom.now.next → Knows reading.old before
+        → Walks before (atom_told reading.old.has_user (place_of holder) atom.now.at (atom_in b atom.now)) reading.old reading.new result }
     ensures few { OnOk result (Few reading.new) }
     ensures reads { ReadsOnly (D.disk depot.old) (D.disk depot.new) }
     ensures cause { result ≡ Err ReadFault.Depot → Rose (D.disk depot.old).faults (D.disk depot.new).faults }
@@ -100,7 +101,9 @@ fn walk_atom<D: Depot>(
     requires small { atom.now.next < 2 ^ 63 }
     requires order { InOrder atom.now.at atom.now.next atom.now }
     requires few { Few reading.old }
-    ensures walks { (b : List ℕ) (before : List (Step Place)) → Holds (D.disk depot.old) b → atom.now.at + length (spell (atom_in b atom.now)) ≡ atom.now.next → Knows reading.old before → Walks before (walk format depth (place_of holder) atom.now.at (atom_in b atom.now)) reading.old reading.new result }
+    ensures walks { (b : List ℕ) (before : List (Step Place)) → Holds (D.disk depot.old) b
+        → atom.now.at + length (spell (atom_in b atom.now)) ≡ atom.now.next → Knows reading.old before
+        → Walks before (deep_told reading.old.has_user depth (place_of holder) atom.now.at (atom_in b atom.now)) reading.old reading.new result }
     ensures few { OnOk result (Few reading.new) }
     ensures reads { ReadsOnly (D.disk depot.old) (D.disk depot.new) }
     ensures cause { result ≡ Err ReadFault.Depot → Rose (D.disk depot.old).faults (D.disk depot.new).faults }
@@ -127,10 +130,12 @@ fn walk_atoms<D: Depot>(
     span: Span,
     depth: u32,
 ) -> Result<(), ReadFault>
+    requires plain { place_of holder ≡ moov → ⊥ }
     requires inside { Inside (span.at + span.len) (D.disk depot.old) }
     requires small { span.at + span.len < 2 ^ 63 }
     requires few { Few reading.old }
-    ensures walks { (b : List ℕ) (before : List (Step Place)) → Holds (D.disk depot.old) b → Knows reading.old before → Walks before (steps_in depth (place_of holder) (level_in holder) b span.at (span.at + span.len)) reading.old reading.new result }
+    ensures walks { (b : List ℕ) (before : List (Step Place)) → Holds (D.disk depot.old) b → Knows reading.old before
+        → Walks before (told_in depth (place_of holder) (level_in holder) b span.at (span.at + span.len)) reading.old reading.new result }
     ensures few { OnOk result (Few reading.new) }
     ensures reads { ReadsOnly (D.disk depot.old) (D.disk depot.new) }
     ensures cause { result ≡ Err ReadFault.Depot → Rose (D.disk depot.old).faults (D.disk depot.new).faults }
@@ -150,8 +155,12 @@ fn walk_atoms<D: Depot>(
         }
     }
     match end_why(reading.has_moov, holder) {
-        None => Ok(()),
-        Some(why) => Err(ReadFault::Why(why)),
+        None => {}
+        Some(why) => return Err(ReadFault::Why(why)),
+    }
+    match keep_rest(reading, walker.at, walker.end) {
+        Err(_) => Err(ReadFault::Memory),
+        Ok(()) => Ok(()),
     }
 }
 
@@ -161,7 +170,9 @@ fn walk_user<D: Depot>(reading: &mut Reading, depot: &mut D, atom: &AtomAt) -> R
     requires small { atom.now.next < 2 ^ 63 }
     requires order { InOrder atom.now.at atom.now.next atom.now }
     requires few { Few reading.old }
-    ensures walks { (b : List ℕ) (before : List (Step Place)) → Holds (D.disk depot.old) b → atom.now.at + length (spell (atom_in b atom.now)) ≡ atom.now.next → Knows reading.old before → Walks before (kid_steps true atom.now.at (atom_in b atom.now)) reading.old reading.new result }
+    ensures walks { (b : List ℕ) (before : List (Step Place)) → Holds (D.disk depot.old) b
+        → atom.now.at + length (spell (atom_in b atom.now)) ≡ atom.now.next → Knows reading.old before
+        → Walks before (kid_told reading.old.has_user true atom.now.at (atom_in b atom.now)) reading.old reading.new result }
     ensures few { OnOk result (Few reading.new) }
     ensures reads { ReadsOnly (D.disk depot.old) (D.disk depot.new) }
     ensures cause { result ≡ Err ReadFault.Depot → Rose (D.disk depot.old).faults (D.disk depot.new).faults }
@@ -179,7 +190,10 @@ fn walk_kid<D: Depot>(reading: &mut Reading, depot: &mut D, atom: &AtomAt) -> Re
     requires small { atom.now.next < 2 ^ 63 }
     requires order { InOrder atom.now.at atom.now.next atom.now }
     requires few { Few reading.old }
-    ensures walks { (b : List ℕ) (before : List (Step Place)) → Holds (D.disk depot.old) b → atom.now.at + length (spell (atom_in b atom.now)) ≡ atom.now.next → Knows reading.old before → Walks before (kid_steps (not reading.old.has_user && bytes_eq atom.now.kind.0 (codes "udta")) atom.now.at (atom_in b atom.now)) reading.old reading.new result }
+    ensures walks { (b : List ℕ) (before : List (Step Place)) → Holds (D.disk depot.old) b
+        → atom.now.at + length (spell (atom_in b atom.now)) ≡ atom.now.next → Knows reading.old before
+        → Walks before (kid_told reading.old.has_user (not reading.old.has_user && bytes_eq atom.now.kind.0 (codes "udta")) atom.now.at
+        (atom_in b atom.now)) reading.old reading.new result }
     ensures few { OnOk result (Few reading.new) }
     ensures reads { ReadsOnly (D.disk depot.old) (D.disk depot.new) }
     ensures cause { result ≡ Err ReadFault.Depot → Rose (D.disk depot.old).faults (D.disk depot.new).faults }
@@ -191,7 +205,7 @@ fn walk_kid<D: Depot>(reading: &mut Reading, depot: &mut D, atom: &AtomAt) -> Re
 }
 
 /// Meets the atoms of `moov`, whose body this is, depth first, and its end: each is tested in the order of reading, and the
-/// first test that holds is told.
+/// first test that holds is told. What is left behind the atoms is a rest.
 pub fn walk_moov<D: Depot>(
     reading: &mut Reading,
     depot: &mut D,
@@ -200,7 +214,8 @@ pub fn walk_moov<D: Depot>(
     requires inside { Inside (span.at + span.len) (D.disk depot.old) }
     requires small { span.at + span.len < 2 ^ 63 }
     requires few { Few reading.old }
-    ensures walks { (b : List ℕ) (before : List (Step Place)) → Holds (D.disk depot.old) b → Knows reading.old before → Walks before (moov_in reading.old.has_user b span.at (span.at + span.len)) reading.old reading.new result }
+    ensures walks { (b : List ℕ) (before : List (Step Place)) → Holds (D.disk depot.old) b → Knows reading.old before
+        → Walks before (moov_told reading.old.has_user b span.at (span.at + span.len)) reading.old reading.new result }
     ensures few { OnOk result (Few reading.new) }
     ensures reads { ReadsOnly (D.disk depot.old) (D.disk depot.new) }
     ensures cause { result ≡ Err ReadFault.Depot → Rose (D.disk depot.old).faults (D.disk depot.new).faults }
@@ -211,13 +226,17 @@ pub fn walk_moov<D: Depot>(
             Err(AtomFault::Depot) => return Err(ReadFault::Depot),
             Err(AtomFault::SizeSmall { at }) => return Err(ReadFault::Why(Why::SizeSmall { at })),
             Err(AtomFault::Truncated { at }) => return Err(ReadFault::Why(Why::Truncated { at })),
-            Ok(None) => return Ok(()),
+            Ok(None) => break,
             Ok(Some(atom)) => atom,
         };
         match walk_kid(reading, depot, &atom) {
             Err(fault) => return Err(fault),
             Ok(()) => {}
         }
+    }
+    match keep_rest(reading, walker.at, walker.end) {
+        Err(_) => Err(ReadFault::Memory),
+        Ok(()) => Ok(()),
     }
 }
 
@@ -227,7 +246,8 @@ pub fn walk_file<D: Depot>(reading: &mut Reading, depot: &mut D, len: u64) -> Re
     requires inside { Inside len (D.disk depot.old) }
     requires small { len < 2 ^ 63 }
     requires few { Few reading.old }
-    ensures walks { (b : List ℕ) (before : List (Step Place)) → Holds (D.disk depot.old) b → length b ≡ len → Knows reading.old before → Walks before (file_steps b) reading.old reading.new result }
+    ensures walks { (b : List ℕ) (before : List (Step Place)) → Holds (D.disk depot.old) b → length b ≡ len → Knows reading.old before
+        → Walks before (file_told b) reading.old reading.new result }
     ensures few { OnOk result (Few reading.new) }
     ensures reads { ReadsOnly (D.disk depot.old) (D.disk depot.new) }
     ensures cause { result ≡ Err ReadFault.Depot → Rose (D.disk depot.old).faults (D.disk depot.new).faults }

@@ -1,5 +1,5 @@
 -- Worked rows: the new file, where it is written in place, and what is then patched.
-use Rattle.std.proofs.Common.{◌≡◌, ℕ, List, [], ◌∷◌, ◌++◌, Some, None, true, false, refl}
+use Rattle.std.proofs.Common.{◌≡◌, ℕ, ◌+◌, List, [], ◌∷◌, ◌++◌, Some, None, true, false, refl}
 use Rattle.std.specs.Prelude.{codes}
 use Rattle.part_tree.specs.Letters.{four}
 use Rattle.part_tree.specs.declared.field.Change.TheVariants.{Set}
@@ -23,9 +23,9 @@ use Rattle.mov_model.specs.Room.{has_room, patches}
 use Rattle.mov_model.specs.Why.{why}
 use Rattle.mov_model.specs.Pieces.{pieces}
 use Rattle.mov_model.specs.Cuts.{offset_places}
-use Rattle.mov_model.specs.Map.{essence, parts_of, track_tables, user_span}
+use Rattle.mov_model.specs.Map.{essence, inner_parts, parts_of, track_tables, user_span}
 use Rattle.part_tree.specs.declared.part.Part.{Part}
-use Rattle.part_tree.specs.declared.part.Role.TheVariants.{Opaque, Padding, Tables, UserData, Essence}
+use Rattle.part_tree.specs.declared.part.Role.TheVariants.{Opaque, Padding, Tables, UserData, Essence, Rest}
 use Rattle.part_tree.specs.declared.part.Role.{Role}
 
 -- the edit that sets the name
@@ -146,8 +146,19 @@ part id at body len next role = record { id = four id; at = at; body = record { 
 
 -- the parts of the first movie
 its_parts : parts_of reel ≡ part (codes "ftyp") 0 8 12 20 Opaque ∷ part (codes "moov") 20 28 128 156 Opaque ∷ part (codes "free") 156 164 16 180 Padding ∷ part (codes "mdat") 180 188 16 204 Essence ∷ part (codes "trak") 28 36 96 132 Opaque ∷ part (codes "mdia") 36 44 88 132 Opaque ∷ part (codes "minf") 44 52 80 132 Opaque ∷ part (codes "stbl") 52 60 72 132 Opaque ∷ part (codes "stsc") 60 68 20 88 Opaque ∷ part (codes "stsz") 88 96 12 108 Opaque ∷ part (codes "stco") 108 116 16 132 Tables ∷ part (codes "udta") 132 140 16 156 UserData ∷ part (169 ∷ codes "nam") 140 148 8 156 Opaque ∷ []
-unfolding read chunks walk
+unfolding read chunks inner_parts
 its_parts = refl
+
+-- user data that ends in four zeros, three bytes more in moov, and a tail of two bytes
+abbrev resting : List ℕ
+resting = 0 ∷ 0 ∷ 0 ∷ 23 ∷ 109 ∷ 111 ∷ 111 ∷ 118 ∷ 0 ∷ 0 ∷ 0 ∷ 12 ∷ 117 ∷ 100 ∷ 116 ∷ 97 ∷ 0 ∷ 0 ∷ 0 ∷ 0 ∷ 1 ∷ 2 ∷ 3 ∷ 4 ∷ 5 ∷ []
+
+abbrev rest : ℕ → ℕ → Part
+rest at len = part (0 ∷ 0 ∷ 0 ∷ 0 ∷ []) at at len (at + len) Rest
+
+its_rests : parts_of resting ≡ part (codes "moov") 0 8 15 23 Opaque ∷ rest 23 2 ∷ part (codes "udta") 8 16 4 20 UserData ∷ rest 16 4 ∷ rest 20 3 ∷ []
+unfolding read chunks inner_parts
+its_rests = refl
 
 its_essence : essence reel ≡ record { at = 188; len = 16 } ∷ []
 unfolding read chunks walk

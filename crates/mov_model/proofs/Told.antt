@@ -1,12 +1,17 @@
 -- What a reader tells of a movie lies in the file: at the place of each atom that is met stand its bytes.
 use Rattle.std.proofs.Common.{◌≡◌, ℕ, zero, suc, ◌+◌, Bool, true, false, cond, List, [], ◌∷◌, ◌++◌, length, map, take, drop, refl, sym, ap, ◌∙◌, append_assoc, arith, Option, Some, None}
-use Rattle.std.specs.Prelude.{◌&&◌, ◌||◌, not}
+use Rattle.std.specs.Prelude.{◌&&◌, ◌||◌, not, codes}
 use Rattle.std.specs.List.{AllByRecursion, flat_map}
 use Rattle.std.proofs.lemmas.List.{append-nil, drop-drop, drop_at, take_at}
 use Rattle.me_bytes.specs.Bytes.{IsBytes}
+use Rattle.part_tree.specs.Parts.{count_role, rest_parts}
+use Rattle.part_tree.specs.Parts as told
+use Rattle.part_tree.specs.declared.names.Span.{Span}
 use Rattle.part_tree.specs.declared.part.Part.{Part}
-use Rattle.container_model.specs.Atoms.{atoms_in}
-use Rattle.container_model.specs.Chunk.{Chunk, header_bytes, joined, spell, spell_all}
+use Rattle.part_tree.specs.declared.part.Role.{Role}
+use Rattle.part_tree.specs.declared.part.Role.TheVariants.{Opaque, Padding, Bext, Info, Whole, Sizes, Tables, UserData, Essence, Rest}
+use Rattle.container_model.specs.Atoms.{atoms_in, is}
+use Rattle.container_model.specs.Chunk.{Chunk, Run, Stop, header_bytes, joined, spell, spell_all}
 use Rattle.container_model.specs.Deep.{Leaf, kids}
 use Rattle.container_model.specs.Sizes.{atom_front, inside, top, user}
 use Rattle.container_model.specs.Walk.{Step, along, body_at, chunk_at, chunk_met, end_at, walk, walk_at}
@@ -16,8 +21,8 @@ use Rattle.container_model.proofs.Deep.{bytes_of}
 use Rattle.container_model.proofs.Units.{spell_all-append}
 use Rattle.container_model.proofs.Walk.{all_join}
 use Rattle.qt_text.specs.User.{udta}
-use Rattle.mov_model.specs.Atoms.{Place, dinf, file, format, mdia, minf, moov, opens, stbl, trak, user_data}
-use Rattle.mov_model.specs.Map.{body_span, bytes_in, essence, essence_at, essence_met, mdat_bodies, met_bodies, parts_from, parts_of}
+use Rattle.mov_model.specs.Atoms.{Place, dinf, file, format, is_padding, mdia, minf, moov, opens, stbl, trak, user_data}
+use Rattle.mov_model.specs.Map.{atom_spans, body_span, bytes_in, essence, essence_at, essence_met, file_parts, file_role, in_kid, inner_parts, is_atom, kid_parts, mdat_bodies, met_bodies, moov_parts, moov_role, opened_parts, part, parts_of, role_in, role_where, run_parts, user_parts, with_inner}
 use Rattle.mov_model.specs.Pieces.{is_mdat}
 use Rattle.mov_model.proofs.Steps.{InTrack, inner, inner_track, met_both, met_row as met_rows, walk_kid}
 use Rattle.std.proofs.lemmas.List.Concat.{flat_map-append}
@@ -132,23 +137,154 @@ module _ (b : List ℕ) (bytes : IsBytes b) (sup : Readable b) where
 abbrev bodies_of : List (Step Place) → List (List ℕ)
 bodies_of ss = map (λ (l : Leaf Place). l.chunk.body) (flat_map chunk_met ss)
 
-parts_told : (b : List ℕ) (before ss : List (Step Place)) → AllByRecursion (Met b) ss → map (λ (p : Part). bytes_in b p.body) (parts_from before ss) ≡ bodies_of ss
-parts_told b before [] h = refl
-parts_told b before (chunk_at p at c ∷ ss) h = ap (λ (x : List ℕ). x ∷ map (λ (q : Part). bytes_in b q.body) (parts_from (chunk_at p at c ∷ before) ss)) h.0 ∙ ap (λ (xs : List (List ℕ)). c.body ∷ xs) (parts_told b (chunk_at p at c ∷ before) ss h.1)
-parts_told b before (end_at p at stop ∷ ss) h = parts_told b (end_at p at stop ∷ before) ss h.1
+-- the span of the body of an atom that is met
+abbrev span_met : Step Place → List Span
+span_met (chunk_at p at c) = body_span at c ∷ []
+span_met (end_at p at stop) = []
 
-as_many : (before ss : List (Step Place)) → length (parts_from before ss) ≡ atoms_met ss
-as_many before [] = refl
-as_many before (chunk_at p at c ∷ ss) = ap suc (as_many (chunk_at p at c ∷ before) ss)
-as_many before (end_at p at stop ∷ ss) = as_many (end_at p at stop ∷ before) ss
+spans_both : (xs ys : List Part) → atom_spans (xs ++ ys) ≡ atom_spans xs ++ atom_spans ys
+spans_both [] ys = refl
+spans_both (p ∷ xs) ys = go (is_atom p.role) (spans_both xs ys)
+  where
+    go : (t : Bool) → atom_spans (xs ++ ys) ≡ atom_spans xs ++ atom_spans ys → cond t (p.body ∷ atom_spans (xs ++ ys)) (atom_spans (xs ++ ys)) ≡ cond t (p.body ∷ atom_spans xs) (atom_spans xs) ++ atom_spans ys
+    go true more = ap (λ (ss : List Span). p.body ∷ ss) more
+    go false more = more
 
-pub parts_law : (b : List ℕ) → IsBytes b → Readable b → map (λ (p : Part). bytes_in b p.body) (parts_of b) ≡ met_bodies b
-parts_law b bytes sup = parts_told b [] (reading b) (all_met b bytes sup)
+no_rest : (at : ℕ) (b : List ℕ) → atom_spans (rest_parts at b) ≡ []
+no_rest at [] = refl
+no_rest at (x ∷ b) = refl
 
-pub count_law : (b : List ℕ) → IsBytes b → Readable b → length (parts_of b) ≡ count_parts (movie_of b)
+one_span : (role : Role) (at : ℕ) (c : Chunk) (ps : List Part) → is_atom role ≡ true → atom_spans (part role at c ∷ ps) ≡ body_span at c ∷ atom_spans ps
+one_span role at c ps e = ap (λ (t : Bool). cond t (body_span at c ∷ atom_spans ps) (atom_spans ps)) e
+
+is_where : (t : Bool) (role : Role) → is_atom role ≡ true → is_atom (role_where t role) ≡ true
+is_where true role e = e
+is_where false role e = refl
+
+pads_or : (t : Bool) (role : Role) → is_atom role ≡ true → is_atom (cond t Padding role) ≡ true
+pads_or true role e = refl
+pads_or false role e = e
+
+is_file : (c : Chunk) → is_atom (file_role c) ≡ true
+is_file c = pads_or (is_padding c.id) (role_where (is_mdat c) Essence) (is_where (is_mdat c) Essence refl)
+
+is_kid : (seen : Bool) (c : Chunk) → is_atom (moov_role seen c) ≡ true
+is_kid seen c = pads_or (is_padding c.id) (role_where (not seen && udta.is c) UserData) (is_where (not seen && udta.is c) UserData refl)
+
+is_in : (p : Place) (c : Chunk) → is_atom (role_in p c) ≡ true
+is_in file c = is_file c
+is_in user_data c = refl
+is_in moov c = refl
+is_in trak c = refl
+is_in mdia c = refl
+is_in minf c = refl
+is_in stbl c = is_where (is c (codes "stco") || is c (codes "co64")) Tables refl
+is_in dinf c = refl
+
+along_spans : (g : ℕ → Chunk → List Part) (h : ℕ → Chunk → List (Step Place)) → ((at : ℕ) (c : Chunk) → atom_spans (g at c) ≡ flat_map span_met (h at c)) → (at : ℕ) (cs : List Chunk) → atom_spans (along g at cs) ≡ flat_map span_met (along h at cs)
+along_spans g h same at [] = refl
+along_spans g h same at (c ∷ cs) =
+    spans_both (g at c) (along g (at + length (spell c)) cs) ∙ ap (λ (ss : List Span). ss ++ atom_spans (along g (at + length (spell c)) cs)) (same at c)
+    ∙ ap (λ (ss : List Span). flat_map span_met (h at c) ++ ss) (along_spans g h same (at + length (spell c)) cs)
+    ∙ sym (flat_map-append span_met (h at c) (along h (at + length (spell c)) cs))
+
+run_spans : (g : ℕ → Chunk → List Part) (h : ℕ → Chunk → List (Step Place)) → ((at : ℕ) (c : Chunk) → atom_spans (g at c) ≡ flat_map span_met (h at c)) → (at : ℕ) (r : Run) (p : Place) (end : ℕ) (stop : Stop)
+    → atom_spans (run_parts g at r) ≡ flat_map span_met (along h at r.chunks ++ end_at p end stop ∷ [])
+run_spans g h same at r p end stop =
+    spans_both (along g at r.chunks) (rest_parts (at + length (spell_all r.chunks)) r.left)
+    ∙ ap (λ (ss : List Span). atom_spans (along g at r.chunks) ++ ss) (no_rest (at + length (spell_all r.chunks)) r.left)
+    ∙ ap (λ (ss : List Span). ss ++ []) (along_spans g h same at r.chunks)
+    ∙ sym (flat_map-append span_met (along h at r.chunks) (end_at p end stop ∷ []))
+
+inner_spans : (d : ℕ) (p : Place) (at : ℕ) (c : Chunk) → body_span at c ∷ atom_spans (inner_parts d p at c) ≡ flat_map span_met (walk format d p at c)
+unfolding walk inner_parts
+inner_spans zero p at c = refl
+inner_spans (suc d) p at c = ap (λ (ss : List Span). body_span at c ∷ ss) (go (opens p c.id (take 4 c.body)) (λ q at k. one_span (role_in q k) at k (inner_parts d q at k) (is_in q k) ∙ inner_spans d q at k))
+  where
+    go : (o : Option Place) → ((q : Place) (at : ℕ) (k : Chunk) → atom_spans (with_inner (inner_parts d) q at k) ≡ flat_map span_met (walk format d q at k))
+        → atom_spans (opened_parts (with_inner (inner_parts d)) at c o) ≡ flat_map span_met (walk_at format (walk format d) at c o)
+    go None again = refl
+    go (Some q) again =
+        let start : body_at at c + 0 ≡ body_at at c = omega arith in
+        rw start (run_spans (with_inner (inner_parts d) q) (walk format d q) (again q) (body_at at c) (kids format q c) q (body_at at c + (0 + length (spell_all (kids format q c).chunks))) (kids format q c).stop)
+
+row_spans : (p : Place) (role : Chunk → Role) → ((c : Chunk) → is_atom (role c) ≡ true) → (at : ℕ) (r : Run) (end : ℕ) (stop : Stop) → atom_spans (run_parts (λ at c. part (role c) at c ∷ []) at r) ≡ flat_map span_met (row p at r.chunks ++ end_at p end stop ∷ [])
+row_spans p role is at r end stop = run_spans (λ at c. part (role c) at c ∷ []) (λ at c. chunk_at p at c ∷ []) (λ at c. one_span (role c) at c [] (is c)) at r p end stop
+
+kid_spans : (seen first : Bool) (at : ℕ) (c : Chunk) → atom_spans (part (moov_role seen c) at c ∷ in_kid first at c) ≡ flat_map span_met (kid_steps first at c)
+kid_spans seen true at c =
+    one_span (moov_role seen c) at c (user_parts at c) (is_kid seen c)
+    ∙ ap (λ (ss : List Span). body_span at c ∷ ss) (row_spans user_data (λ k. Opaque) (λ k. refl) (body_at at c) (udta.opening c) (body_at at c + length (spell_all (udta.opening c).chunks)) (udta.opening c).stop)
+kid_spans seen false at c = one_span (moov_role seen c) at c (inner_parts 5 moov at c) (is_kid seen c) ∙ inner_spans 5 moov at c
+
+inside_spans : (seen : Bool) (at : ℕ) (cs : List Chunk) → atom_spans (kid_parts seen at cs) ≡ flat_map span_met (inside_steps seen at cs)
+inside_spans seen at [] = refl
+inside_spans seen at (c ∷ cs) =
+    let first = not seen && udta.is c in
+    let this = part (moov_role seen c) at c ∷ in_kid first at c in
+    let behind = at + length (spell c) in
+    spans_both this (kid_parts (seen || udta.is c) behind cs) ∙ ap (λ (ss : List Span). ss ++ atom_spans (kid_parts (seen || udta.is c) behind cs)) (kid_spans seen first at c)
+    ∙ ap (λ (ss : List Span). flat_map span_met (kid_steps first at c) ++ ss) (inside_spans (seen || udta.is c) behind cs)
+    ∙ sym (flat_map-append span_met (kid_steps first at c) (inside_steps (seen || udta.is c) behind cs))
+
+-- the atoms that are told are those that are met
+told_met : (b : List ℕ) → atom_spans (parts_of b) ≡ flat_map span_met (reading b)
+told_met b =
+    let m = movie_of b in
+    let k = atoms_in m.movie in
+    let tops = row file 0 (top_run b).chunks in
+    let top_end = end_at file (length (spell_all (top_run b).chunks)) (top_run b).stop in
+    let kids_met = inside_steps false (inside_at m) k.chunks in
+    let moov_end : List (Step Place) = end_at moov (inside_at m + length (spell_all k.chunks)) k.stop ∷ [] in
+    let in_moov : atom_spans (moov_parts (inside_at m) k) ≡ flat_map span_met (kids_met ++ moov_end) =
+    spans_both (kid_parts false (inside_at m) k.chunks) (rest_parts (inside_at m + length (spell_all k.chunks)) k.left)
+    ∙ ap (λ (ss : List Span). atom_spans (kid_parts false (inside_at m) k.chunks) ++ ss) (no_rest (inside_at m + length (spell_all k.chunks)) k.left)
+    ∙ ap (λ (ss : List Span). ss ++ []) (inside_spans false (inside_at m) k.chunks) ∙ sym (flat_map-append span_met kids_met moov_end)
+    in
+    spans_both (file_parts (top_run b)) (moov_parts (inside_at m) k)
+    ∙ ap (λ (ss : List Span). ss ++ atom_spans (moov_parts (inside_at m) k)) (row_spans file file_role is_file 0 (top_run b) (length (spell_all (top_run b).chunks)) (top_run b).stop)
+    ∙ ap (λ (ss : List Span). flat_map span_met (tops ++ top_end ∷ []) ++ ss) in_moov
+    ∙ sym (flat_map-append span_met (tops ++ top_end ∷ []) (kids_met ++ moov_end))
+    ∙ ap (flat_map span_met) (append_assoc tops (top_end ∷ []) (kids_met ++ moov_end))
+
+spans_told : (b : List ℕ) (ss : List (Step Place)) → AllByRecursion (Met b) ss → map (bytes_in b) (flat_map span_met ss) ≡ bodies_of ss
+spans_told b [] h = refl
+spans_told b (chunk_at p at c ∷ ss) h = ap (λ (x : List ℕ). x ∷ map (bytes_in b) (flat_map span_met ss)) h.0 ∙ ap (λ (xs : List (List ℕ)). c.body ∷ xs) (spans_told b ss h.1)
+spans_told b (end_at p at stop ∷ ss) h = spans_told b ss h.1
+
+as_many : (ss : List (Step Place)) → length (flat_map span_met ss) ≡ atoms_met ss
+as_many [] = refl
+as_many (chunk_at p at c ∷ ss) = ap suc (as_many ss)
+as_many (end_at p at stop ∷ ss) = as_many ss
+
+count_one : (role : Role) → count_role role ≡ cond (is_atom role) 1 0
+count_one Opaque = refl
+count_one Padding = refl
+count_one Bext = refl
+count_one Info = refl
+count_one Whole = refl
+count_one Sizes = refl
+count_one Tables = refl
+count_one UserData = refl
+count_one Essence = refl
+count_one Rest = refl
+
+counted : (ps : List Part) → told.count_parts ps ≡ length (atom_spans ps)
+counted [] = refl
+counted (p ∷ ps) = ap (λ (n : ℕ). n + told.count_parts ps) (count_one p.role) ∙ go (is_atom p.role) (counted ps)
+  where
+    go : (t : Bool) → told.count_parts ps ≡ length (atom_spans ps) → cond t 1 0 + told.count_parts ps ≡ length (cond t (p.body ∷ atom_spans ps) (atom_spans ps))
+    go true more = omega (arith, more)
+    go false more = omega (arith, more)
+
+pub parts_law : (b : List ℕ) → IsBytes b → Readable b → map (bytes_in b) (atom_spans (parts_of b)) ≡ met_bodies b
+parts_law b bytes sup = ap (map (bytes_in b)) (told_met b) ∙ spans_told b (reading b) (all_met b bytes sup)
+
+pub count_law : (b : List ℕ) → IsBytes b → Readable b → told.count_parts (parts_of b) ≡ count_parts (movie_of b)
 count_law b bytes sup =
     let m = movie_of b in
-    as_many [] (reading b) ∙ met_both (row file 0 (top_run b).chunks) (end_at file (length (spell_all (top_run b).chunks)) (top_run b).stop ∷ moov_steps m)
+    counted (parts_of b) ∙ ap (λ (ss : List Span). length ss) (told_met b) ∙ as_many (reading b)
+    ∙ met_both (row file 0 (top_run b).chunks) (end_at file (length (spell_all (top_run b).chunks)) (top_run b).stop ∷ moov_steps m)
     ∙ ap (λ (n : ℕ). n + atoms_met (moov_steps m)) (met_row_count (top_run b).chunks 0) ∙ ap (λ (cs : List Chunk). length cs + atoms_met (moov_steps m)) (sym (whole b bytes sup).0)
   where
     met_row_count : (cs : List Chunk) (at : ℕ) → atoms_met (row file at cs) ≡ length cs

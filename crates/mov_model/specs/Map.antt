@@ -1,23 +1,23 @@
 -- What a reader tells of a movie: its parts with their roles, its user data, its essence and the tables of its tracks.
-use Rattle.std.specs.Prelude.{ℕ, ◌+◌, List, [], ◌∷◌, ◌++◌, length, map, take, drop, Bool, true, false, ◌&&◌, ◌||◌, not, codes, Option, Some, None, if◌then◌else◌}
+use Rattle.std.specs.Prelude.{ℕ, zero, suc, ◌+◌, List, [], ◌∷◌, ◌++◌, length, map, take, drop, Bool, true, false, ◌&&◌, ◌||◌, not, codes, Option, Some, None, if◌then◌else◌}
 use Rattle.std.specs.List.{flat_map}
 use Rattle.part_tree.specs.Letters.{four}
+use Rattle.part_tree.specs.Parts.{rest_parts}
 use Rattle.part_tree.specs.declared.names.Span.{Span}
 use Rattle.part_tree.specs.declared.part.Part.{Part}
 use Rattle.part_tree.specs.declared.part.Role.{Role}
-use Rattle.part_tree.specs.declared.part.Role.TheVariants.{Opaque, Padding, Tables, UserData, Essence}
+use Rattle.part_tree.specs.declared.part.Role.TheVariants.{Opaque, Padding, Tables, UserData, Essence, Rest}
 use Rattle.part_tree.specs.declared.shows.Track.{Track}
-use Rattle.container_model.specs.Chunk.{Chunk, spell}
+use Rattle.container_model.specs.Chunk.{Chunk, Run, spell, spell_all}
 use Rattle.container_model.specs.Items.{is_nil}
 use Rattle.container_model.specs.Walk.{Step, chunk_at, chunk_met, end_at, body_at, along, walk}
-use Rattle.container_model.specs.Deep.{Leaf}
-use Rattle.mov_model.specs.Atoms.{Place, file, moov, stbl, is_padding, format}
+use Rattle.container_model.specs.Deep.{Leaf, kids}
+use Rattle.mov_model.specs.Atoms.{Place, file, moov, stbl, is_padding, opens, format}
 use Rattle.container_model.specs.Atoms.{is, atoms_in}
 use Rattle.qt_text.specs.User.{udta}
-use Rattle.mov_model.specs.Movie.{Movie, movie_of}
+use Rattle.mov_model.specs.Movie.{Movie, movie_of, top_run}
 use Rattle.mov_model.specs.Pieces.{is_mdat}
 use Rattle.mov_model.specs.Reading.{inside_at, reading}
-use Rattle.mov_model.specs.Why.{met_user}
 
 -- ---- parts
 
@@ -38,26 +38,59 @@ file_role c = if is_padding c.id then Padding else role_where (is_mdat c) Essenc
 abbrev pub moov_role : Bool → Chunk → Role
 moov_role seen c = if is_padding c.id then Padding else role_where (not seen && udta.is c) UserData
 
--- a table of chunk places stands in stbl
-abbrev pub role_at : Place → List (Step Place) → Chunk → Role
-role_at file before c = file_role c
-role_at moov before c = moov_role (met_user before) c
-role_at stbl before c = role_where (is c (codes "stco") || is c (codes "co64")) Tables
-role_at p before c = Opaque
+-- an atom below those of moov: a table of chunk places stands in stbl
+abbrev pub role_in : Place → Chunk → Role
+role_in file c = file_role c
+role_in stbl c = role_where (is c (codes "stco") || is c (codes "co64")) Tables
+role_in p c = Opaque
 
--- the part that is met, if one is
-abbrev pub part_met : List (Step Place) → Step Place → List Part
-part_met before (chunk_at p at c) = record { id = four c.id; at = at; body = body_span at c; next = at + length (spell c); role = role_at p before c } ∷ []
-part_met before (end_at p at stop) = []
+-- an atom as a part
+abbrev pub part : Role → ℕ → Chunk → Part
+part role at c = record { id = four c.id; at = at; body = body_span at c; next = at + length (spell c); role = role }
 
--- the parts that are met, with what was met before
-abbrev pub parts_from : List (Step Place) → List (Step Place) → List Part
-parts_from before [] = []
-parts_from before (s ∷ ss) = part_met before s ++ parts_from (s ∷ before) ss
+-- atoms that follow each other from a place on, and their rest
+abbrev pub run_parts : (ℕ → Chunk → List Part) → ℕ → Run → List Part
+run_parts each at r = along each at r.chunks ++ rest_parts (at + length (spell_all r.chunks)) r.left
 
--- the parts of a file, in the order of reading
+-- the parts in an atom that is opened
+abbrev pub opened_parts : (Place → ℕ → Chunk → List Part) → ℕ → Chunk → Option Place → List Part
+opened_parts each at c None = []
+opened_parts each at c (Some p) = run_parts (each p) (body_at at c) (kids format p c)
+
+-- an atom in a place, and the parts in it
+abbrev pub with_inner : (Place → ℕ → Chunk → List Part) → Place → ℕ → Chunk → List Part
+with_inner inner p at c = part (role_in p c) at c ∷ inner p at c
+
+-- the parts in an atom of this place, so many levels deep
+unfoldable pub inner_parts : ℕ → Place → ℕ → Chunk → List Part
+inner_parts zero p at c = []
+inner_parts (suc d) p at c = opened_parts (with_inner (inner_parts d)) at c (opens p c.id (take 4 c.body))
+
+-- the parts in user data
+abbrev pub user_parts : ℕ → Chunk → List Part
+user_parts at c = run_parts (λ at k. part Opaque at k ∷ []) (body_at at c) (udta.opening c)
+
+-- the parts in an atom of moov, which is the first user data or isn't
+abbrev pub in_kid : Bool → ℕ → Chunk → List Part
+in_kid true at c = user_parts at c
+in_kid false at c = inner_parts 5 moov at c
+
+-- the atoms of moov, behind user data or not, each with the parts in it
+abbrev pub kid_parts : Bool → ℕ → List Chunk → List Part
+kid_parts seen at [] = []
+kid_parts seen at (c ∷ cs) = (part (moov_role seen c) at c ∷ in_kid (not seen && udta.is c) at c) ++ kid_parts (seen || udta.is c) (at + length (spell c)) cs
+
+-- the atoms of moov and its rest
+abbrev pub moov_parts : ℕ → Run → List Part
+moov_parts at r = kid_parts false at r.chunks ++ rest_parts (at + length (spell_all r.chunks)) r.left
+
+-- the atoms of a file, and its tail
+abbrev pub file_parts : Run → List Part
+file_parts r = run_parts (λ at c. part (file_role c) at c ∷ []) 0 r
+
+-- the parts of a file, in the order of reading: its atoms and its tail, then those of moov
 abbrev pub parts_of : List ℕ → List Part
-parts_of b = parts_from [] (reading b)
+parts_of b = file_parts (top_run b) ++ moov_parts (inside_at (movie_of b)) (atoms_in (movie_of b).movie)
 
 -- ---- essence and user data
 
@@ -79,6 +112,16 @@ bytes_in b s = take s.len (drop s.at b)
 -- the bodies of the atoms that are met
 abbrev pub met_bodies : List ℕ → List (List ℕ)
 met_bodies b = map (λ (l : Leaf Place). l.chunk.body) (flat_map chunk_met (reading b))
+
+-- whether a part is no rest
+abbrev pub is_atom : Role → Bool
+is_atom Rest = false
+is_atom role = true
+
+-- the spans of the bodies of the parts that are no rests
+abbrev pub atom_spans : List Part → List Span
+atom_spans [] = []
+atom_spans (p ∷ ps) = if is_atom p.role then p.body ∷ atom_spans ps else atom_spans ps
 
 -- the body of an mdat that is met
 abbrev pub essence_met : Step Place → List (List ℕ)

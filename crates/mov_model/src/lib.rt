@@ -6,10 +6,11 @@ ghost use Rattle.me_bytes.specs.Bytes.{IsBytes};
 ghost use Rattle.carrier_model.specs.Gaps.{moves_of};
 ghost use Rattle.container_model.specs.Splice.{Ascend, shift, splice};
 ghost use Rattle.part_tree.specs.Moves.{place};
+ghost use Rattle.part_tree.specs.Parts as told;
 ghost use Rattle.container_model.specs.Atoms.{atoms_in};
 ghost use Rattle.container_model.specs.Chunk.{Chunk, joined};
 ghost use Rattle.qt_text.specs.User.{udta};
-ghost use Rattle.mov_model.specs.Map.{bytes_in, essence, mdat_bodies, met_bodies, parts_of};
+ghost use Rattle.mov_model.specs.Map.{atom_spans, bytes_in, essence, mdat_bodies, met_bodies, parts_of};
 ghost use Rattle.mov_model.specs.Movie.{movie_of, spell_movie, all_atoms, top_run};
 ghost use Rattle.mov_model.specs.Reading.{count_parts};
 ghost use Rattle.mov_model.specs.New.{edited_file, new_movie, laid_movie, overlaid, edit_cuts, with_size};
@@ -86,11 +87,11 @@ pub fn patches_make_new()
     ensures three { (o : List ℕ) (e : List EditItem) → IsBytes o → Supported o → length (patches o e) ≤ 3 }
 {}
 
-/// A reader tells as many parts of a movie as are counted. At the spans of their bodies lie the bodies of the atoms that are met,
-/// in the order of reading, and at those of the essence the bodies of the `mdat`s, in file order.
+/// A reader tells as many parts of a movie, its rests and its tail apart, as are counted. At the spans of their bodies lie the bodies
+/// of the atoms that are met, in the order of reading, and at those of the essence the bodies of the `mdat`s, in file order.
 pub fn what_is_told()
-    ensures parts { (b : List ℕ) → IsBytes b → Supported b → length (parts_of b) ≡ count_parts (movie_of b) }
-    ensures bodies { (b : List ℕ) → IsBytes b → Supported b → map (λ p. bytes_in b p.body) (parts_of b) ≡ met_bodies b }
+    ensures parts { (b : List ℕ) → IsBytes b → Supported b → told.count_parts (parts_of b) ≡ count_parts (movie_of b) }
+    ensures bodies { (b : List ℕ) → IsBytes b → Supported b → map (bytes_in b) (atom_spans (parts_of b)) ≡ met_bodies b }
     ensures essence { (b : List ℕ) → IsBytes b → Supported b → map (bytes_in b) (essence b) ≡ mdat_bodies (all_atoms (movie_of b)) }
 {}
 

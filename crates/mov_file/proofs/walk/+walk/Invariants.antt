@@ -4,7 +4,7 @@ use Rattle.me_disk.specs.Holds.{Holds}
 use Rattle.container_model.specs.Walk.{Step}
 use Rattle.mov_model.specs.Atoms.{Place}
 use Rattle.mov_file.specs.Holder.{level_in, parent_of, place_of}
-use Rattle.mov_file.specs.Walked.{Few, Knows, steps_in}
+use Rattle.mov_file.specs.Walked.{Few, Knows, told_in}
 use Rattle.mov_file.proofs.Walks.{IsLeft}
 use Rattle.mov_file.proofs.walk.+walk.Given as goal
 
@@ -22,7 +22,7 @@ invariant-walk_atoms-atoms g l = record {
   few : Few l.reading;
   reads : ReadsOnly (g.D.Depot.disk l.fn.depot) (g.D.Depot.disk l.depot);
   left : (b : List ℕ) (before : List (Step Place)) → Holds (g.D.Depot.disk l.fn.depot) b → Knows l.fn.reading before
-      → IsLeft before (steps_in l.depth (place_of l.holder) (level_in l.holder) b l.fn.span.at (l.fn.span.at + l.fn.span.len)) (steps_in l.depth (place_of l.holder) (level_in l.holder) b l.walker.at l.walker.end) l.fn.reading l.reading;
+      → IsLeft before (told_in l.depth (place_of l.holder) (level_in l.holder) b l.fn.span.at (l.fn.span.at + l.fn.span.len)) (told_in l.depth (place_of l.holder) (level_in l.holder) b l.walker.at l.walker.end) l.fn.reading l.reading;
 }
 
 abbrev pub decreases-walk_atoms-atoms : goal.decreases-walk_atoms-atoms

@@ -11,5 +11,5 @@ returns-in-Ok-clause-took g c = λ b before holds place knows.
     let k = c.args.atom.now in
     let this = atom_in b k in
     let len = length_slice b k.body.at k.body.len (omega (arith, c.requires.inside b holds, c.requires.order.behind, c.requires.order.last)) in
-    step_walked before (chunk_at (place_of c.args.holder) k.at this) c.args.reading.now c.remember.new.reading
+    step_walked before (chunk_at (place_of c.args.holder) k.at this) _ c.args.reading.now c.remember.new.reading
     (sym (sym c.in-Ok-None.field-0-is ∙ c.in-Ok-None.ensures.why b before holds place knows)) (c.in-Ok.ensures.remembers this before (stands b k k.next c.requires.order len place) knows)

@@ -1,4 +1,4 @@
-use Rattle.std.proofs.Common.{refl, sym, ap, subst, ◌≡◌, ◌∙◌, ◌+◌, ◌∷◌, [], ℕ, List, Bool, length}
+use Rattle.std.proofs.Common.{arith, refl, sym, ap, subst, ◌≡◌, ◌∙◌, ◌+◌, ◌-◌, ℕ, Bool, length}
 use Rattle.std.specs.Prelude.{◌&&◌, ◌||◌, codes, not}
 use Rattle.std.specs.Str.{bytes_eq}
 use Rattle.std.specs.declared.option.Option.TheVariants.{Some, None}
@@ -7,17 +7,18 @@ use Rattle.me_disk.proofs.Holds.{holds_on}
 use Rattle.me_disk.proofs.Runs.{ReadsOnly-trans}
 use Rattle.container_model.specs.Chunk.{bad_header, ends, passes, spell}
 use Rattle.container_model.specs.Sizes.{inside}
-use Rattle.container_model.specs.Walk.{Step, end_at}
+use Rattle.container_model.specs.Walk.{end_at}
 use Rattle.container_model.specs.Windows.{window}
-use Rattle.mov_model.specs.Atoms.{Place, moov}
-use Rattle.mov_model.specs.Reading.{kid_steps}
+use Rattle.container_model.proofs.Windows.{length-window}
+use Rattle.part_tree.specs.Parts.{rest_parts}
+use Rattle.mov_model.specs.Atoms.{moov}
 use Rattle.part_tree.specs.declared.why.ReadFault.TheVariants as fault
 use Rattle.part_tree.specs.declared.why.Why.TheVariants as why
 use Rattle.qt_atoms.specs.Walk.{InOrder, Stepped, StuckThere, atom_in, level_of}
 use Rattle.qt_atoms.specs.declared.header.Parent.{Parent}
 use Rattle.qt_atoms.specs.declared.walker.AtomFault.TheVariants.{SizeSmall, Truncated}
-use Rattle.mov_file.specs.Walked.{Walked, Walks, moov_in}
-use Rattle.mov_file.proofs.Walks.{IsLeft, cut_refused, end_walked, left_fails, left_more, left_none, moov_more, moov_stop, small_refused, user_after}
+use Rattle.mov_file.specs.Walked.{Remembers, Told, Walked, Walks, end_told, kid_told, moov_told}
+use Rattle.mov_file.proofs.Walks.{IsLeft, both_none, cut_refused, left_fails, left_more, left_none, moov_more, moov_stop, none_told, small_refused, step_walked, user_after}
 use Rattle.mov_file.proofs.walk.walk_moov.Goals as goal
 
 pub returns-in-Err-SizeSmall-clause-walks : goal.returns-in-Err-SizeSmall-clause-walks
@@ -28,9 +29,9 @@ returns-in-Err-SizeSmall-clause-walks g c = λ b before holds knows.
     let end = c.kids.walker.end in
     let left = inv.left b before holds knows in
     let stuck : StuckThere inside b at end (SizeSmall c.in-Err-SizeSmall.at) = subst (λ (x : Parent). StuckThere (level_of x) b at end (SizeSmall c.in-Err-SizeSmall.at)) inv.parent (rw c.in-Err-SizeSmall.field-0-is at (c.in-Err-SizeSmall.ensures.stuck b held)) in
-    let refused : Walks before (moov_in c.args.reading.now.has_user b c.args.span.at (c.args.span.at + c.args.span.len)) c.args.reading.now c.kids.reading (Err (fault.Why (why.SizeSmall c.in-Err-SizeSmall.at))) =
-    left_fails before _ _ (end_at moov at bad_header ∷ []) [] c.args.reading.now c.kids.reading c.kids.reading (fault.Why (why.SizeSmall c.in-Err-SizeSmall.at)) left (moov_stop c.kids.reading.has_user b at end bad_header (window b at end) stuck.0)
-    (small_refused left.mid moov at c.in-Err-SizeSmall.at c.kids.reading c.kids.reading (sym stuck.1))
+    let refused : Walks before (moov_told c.args.reading.now.has_user b c.args.span.at (c.args.span.at + c.args.span.len)) c.args.reading.now c.kids.reading (Err (fault.Why (why.SizeSmall c.in-Err-SizeSmall.at))) =
+    left_fails before _ _ (end_told moov at bad_header (window b at end)) none_told c.args.reading.now c.kids.reading c.kids.reading (fault.Why (why.SizeSmall c.in-Err-SizeSmall.at)) left (moov_stop c.kids.reading.has_user b at end bad_header (window b at end) stuck.0 ∙ sym (both_none _))
+    (small_refused left.mid moov at c.in-Err-SizeSmall.at (window b at end) c.kids.reading c.kids.reading (sym stuck.1))
     in
     refused ∙ ap (λ (i : ℕ). Some (why.SizeSmall i)) (sym c.in-Err-SizeSmall.at-is)
 
@@ -42,23 +43,32 @@ returns-in-Err-Truncated-clause-walks g c = λ b before holds knows.
     let end = c.kids.walker.end in
     let left = inv.left b before holds knows in
     let stuck : StuckThere inside b at end (Truncated c.in-Err-Truncated.at) = subst (λ (x : Parent). StuckThere (level_of x) b at end (Truncated c.in-Err-Truncated.at)) inv.parent (rw c.in-Err-Truncated.field-0-is at (c.in-Err-Truncated.ensures.stuck b held)) in
-    let refused : Walks before (moov_in c.args.reading.now.has_user b c.args.span.at (c.args.span.at + c.args.span.len)) c.args.reading.now c.kids.reading (Err (fault.Why (why.Truncated c.in-Err-Truncated.at))) =
-    left_fails before _ _ (end_at moov at passes ∷ []) [] c.args.reading.now c.kids.reading c.kids.reading (fault.Why (why.Truncated c.in-Err-Truncated.at)) left (moov_stop c.kids.reading.has_user b at end passes (window b at end) stuck.0)
-    (cut_refused left.mid moov at c.in-Err-Truncated.at c.kids.reading c.kids.reading (sym stuck.1))
+    let refused : Walks before (moov_told c.args.reading.now.has_user b c.args.span.at (c.args.span.at + c.args.span.len)) c.args.reading.now c.kids.reading (Err (fault.Why (why.Truncated c.in-Err-Truncated.at))) =
+    left_fails before _ _ (end_told moov at passes (window b at end)) none_told c.args.reading.now c.kids.reading c.kids.reading (fault.Why (why.Truncated c.in-Err-Truncated.at)) left (moov_stop c.kids.reading.has_user b at end passes (window b at end) stuck.0 ∙ sym (both_none _))
+    (cut_refused left.mid moov at c.in-Err-Truncated.at (window b at end) c.kids.reading c.kids.reading (sym stuck.1))
     in
     refused ∙ ap (λ (i : ℕ). Some (why.Truncated i)) (sym c.in-Err-Truncated.at-is)
 
-pub returns-in-Ok-None-clause-walks : goal.returns-in-Ok-None-clause-walks
-returns-in-Ok-None-clause-walks g c = λ b before holds knows.
+pub returns-in-Ok-keep_rest-clause-walks : goal.returns-in-Ok-keep_rest-clause-walks
+returns-in-Ok-keep_rest-clause-walks g c = λ b before holds knows.
     let inv = c.kids.invariant in
     let held = holds_on _ _ b inv.reads holds in
     let at = c.kids.walker.at in
     let end = c.kids.walker.end in
     let left = inv.left b before holds knows in
+    let over = window b at end in
     let step : Stepped inside b at end None = subst (λ (x : Parent). Stepped (level_of x) b at end None) inv.parent (rw c.in-Ok-None.field-0-is at (c.in-Ok-None.ensures.row b held)) in
-    left_none before _ c.args.reading.now c.kids.reading
-    (left_more before _ _ (end_at moov at ends ∷ []) [] c.args.reading.now c.kids.reading c.kids.reading left (moov_stop c.kids.reading.has_user b at end ends (window b at end) step)
-    (end_walked left.mid moov at c.kids.reading left.knows refl))
+    let moved : c.next.new.self.at ≡ at = rw c.in-Ok-None.field-0-is at c.in-Ok-None.ensures.moved in
+    let long : length over ≡ end - at = length-window b at end (rw inv.end (c.requires.inside b holds)) in
+    let whole : c.next.new.self.at + length over ≡ c.next.new.self.end = omega (arith, moved, c.next.ensures.end, long, c.kids.walker.in_order) in
+    let kept : Remembers left.mid (end_at moov at ends) (rest_parts at over) c.kids.reading c.keep_rest.new.reading =
+    subst (λ (i : ℕ). Remembers left.mid (end_at moov i ends) (rest_parts i over) c.kids.reading c.keep_rest.new.reading) moved (c.in-Ok-keep_rest.ensures.remembers over left.mid moov whole left.knows)
+    in
+    let last : Walked left.mid (end_told moov at ends over) c.kids.reading c.keep_rest.new.reading =
+    step_walked left.mid (end_at moov at ends) (rest_parts at over) c.kids.reading c.keep_rest.new.reading refl kept
+    in
+    left_none before _ _ c.args.reading.now c.kids.reading c.keep_rest.new.reading left
+    (subst (λ (t : Told). Walked left.mid t c.kids.reading c.keep_rest.new.reading) (sym (moov_stop c.kids.reading.has_user b at end ends over step)) last)
 
 pub returns-in-Err-clause-walks : goal.returns-in-Err-clause-walks
 returns-in-Err-clause-walks g c = λ b before holds knows.
@@ -75,10 +85,10 @@ returns-in-Err-clause-walks g c = λ b before holds knows.
     let order : InOrder at end k = rw c.in-Ok-Some.field-0-is at c.in-Ok-Some.ensures.atom in
     let step : Stepped inside b at end (Some k) = subst (λ (x : Parent). Stepped (level_of x) b at end (Some k)) inv.parent (rw c.in-Ok-Some.field-0-is at (c.in-Ok-Some.ensures.row b held)) in
     let place : k.at + length (spell this) ≡ k.next = ap (λ (i : ℕ). i + length (spell this)) order.begins ∙ step.1 in
-    let met : Walks left.mid (kid_steps kid at this) c.kids.reading c.walk_kid.new.reading (Err c.in-Err.fault) =
-    subst (λ (i : ℕ). Walks left.mid (kid_steps kid i this) c.kids.reading c.walk_kid.new.reading (Err c.in-Err.fault)) order.begins (c.in-Err.ensures.walks b left.mid later place left.knows)
+    let met : Walks left.mid (kid_told seen kid at this) c.kids.reading c.walk_kid.new.reading (Err c.in-Err.fault) =
+    subst (λ (i : ℕ). Walks left.mid (kid_told seen kid i this) c.kids.reading c.walk_kid.new.reading (Err c.in-Err.fault)) order.begins (c.in-Err.ensures.walks b left.mid later place left.knows)
     in
-    left_fails before _ _ (kid_steps kid at this) (moov_in (seen || bytes_eq k.kind.0 (codes "udta")) b k.next end) c.args.reading.now c.kids.reading c.walk_kid.new.reading c.in-Err.fault left
+    left_fails before _ _ (kid_told seen kid at this) (moov_told (seen || bytes_eq k.kind.0 (codes "udta")) b k.next end) c.args.reading.now c.kids.reading c.walk_kid.new.reading c.in-Err.fault left
     (moov_more seen b at k.next end this step.0 step.1) met
 
 pub kids-preserved : goal.kids-preserved
@@ -103,15 +113,15 @@ kids-preserved g c =
           let left = inv.left b before holds knows in
           let step : Stepped inside b at end (Some k) = subst (λ (x : Parent). Stepped (level_of x) b at end (Some k)) inv.parent (rw c.in-Ok-Some.field-0-is at (c.in-Ok-Some.ensures.row b held)) in
           let place : k.at + length (spell this) ≡ k.next = ap (λ (i : ℕ). i + length (spell this)) order.begins ∙ step.1 in
-          let met : Walked left.mid (kid_steps kid at this) c.kids.reading c.walk_kid.new.reading =
-          subst (λ (i : ℕ). Walked left.mid (kid_steps kid i this) c.kids.reading c.walk_kid.new.reading) order.begins (c.in-Ok.ensures.walks b left.mid later place left.knows)
+          let met : Walked left.mid (kid_told seen kid at this) c.kids.reading c.walk_kid.new.reading =
+          subst (λ (i : ℕ). Walked left.mid (kid_told seen kid i this) c.kids.reading c.walk_kid.new.reading) order.begins (c.in-Ok.ensures.walks b left.mid later place left.knows)
           in
           let user_too : (seen || bytes_eq k.kind.0 (codes "udta")) ≡ c.walk_kid.new.reading.has_user =
           ap (λ (t : Bool). t || bytes_eq k.kind.0 (codes "udta")) left.knows.user ∙ sym (user_after kid at this left.mid) ∙ sym met.knows.user
           in
-          let whole : List (Step Place) = moov_in c.args.reading.now.has_user b c.args.span.at (c.args.span.at + c.args.span.len) in
-          let next : IsLeft before whole (moov_in (seen || bytes_eq k.kind.0 (codes "udta")) b k.next end) c.args.reading.now c.walk_kid.new.reading =
-          left_more before _ _ (kid_steps kid at this) (moov_in (seen || bytes_eq k.kind.0 (codes "udta")) b k.next end) c.args.reading.now c.kids.reading c.walk_kid.new.reading left (moov_more seen b at k.next end this step.0 step.1) met
+          let whole : Told = moov_told c.args.reading.now.has_user b c.args.span.at (c.args.span.at + c.args.span.len) in
+          let next : IsLeft before whole (moov_told (seen || bytes_eq k.kind.0 (codes "udta")) b k.next end) c.args.reading.now c.walk_kid.new.reading =
+          left_more before _ _ (kid_told seen kid at this) (moov_told (seen || bytes_eq k.kind.0 (codes "udta")) b k.next end) c.args.reading.now c.kids.reading c.walk_kid.new.reading left (moov_more seen b at k.next end this step.0 step.1) met
           in
-          rw (moved, c.next.ensures.end) (subst (λ (t : Bool). IsLeft before whole (moov_in t b k.next end) c.args.reading.now c.walk_kid.new.reading) user_too next);
+          rw (moved, c.next.ensures.end) (subst (λ (t : Bool). IsLeft before whole (moov_told t b k.next end) c.args.reading.now c.walk_kid.new.reading) user_too next);
     }

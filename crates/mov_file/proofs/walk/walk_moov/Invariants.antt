@@ -4,7 +4,7 @@ use Rattle.me_disk.specs.Holds.{Holds}
 use Rattle.container_model.specs.Walk.{Step}
 use Rattle.mov_model.specs.Atoms.{Place}
 use Rattle.qt_atoms.specs.declared.header.Parent.TheVariants.{Atom}
-use Rattle.mov_file.specs.Walked.{Few, Knows, moov_in}
+use Rattle.mov_file.specs.Walked.{Few, Knows, moov_told}
 use Rattle.mov_file.proofs.Walks.{IsLeft}
 use Rattle.mov_file.proofs.walk.walk_moov.Given as goal
 
@@ -16,7 +16,7 @@ invariant-kids g l = record {
   few : Few l.reading;
   reads : ReadsOnly (g.D.Depot.disk l.fn.depot) (g.D.Depot.disk l.depot);
   left : (b : List ℕ) (before : List (Step Place)) → Holds (g.D.Depot.disk l.fn.depot) b → Knows l.fn.reading before
-      → IsLeft before (moov_in l.fn.reading.has_user b l.fn.span.at (l.fn.span.at + l.fn.span.len)) (moov_in l.reading.has_user b l.walker.at l.walker.end) l.fn.reading l.reading;
+      → IsLeft before (moov_told l.fn.reading.has_user b l.fn.span.at (l.fn.span.at + l.fn.span.len)) (moov_told l.reading.has_user b l.walker.at l.walker.end) l.fn.reading l.reading;
 }
 
 abbrev pub decreases-kids : goal.decreases-kids
