@@ -75,7 +75,8 @@ joined a e = record a { children = children_after a e; pad = pad_after a e }
 abbrev pub list_cuts : Avi → Changes → List Cut
 list_cuts a e =
     let n = named a e.names in
-    cuts (fill_of (riff_of n)) 12 (units shut (new_cells n e.infos)) ++ pad_cut (8 + length (inner n.children n.left)) a.pad (pad_after a e)
+    cuts (fill_of (riff_of n)) 12 (units shut (new_cells n e.infos))
+    ++ pad_cut (8 + length (inner n.children n.left)) a.pad (pad_after a e)
 
 -- how places move: where the names put them, and from there where the lists of fields do
 abbrev pub goes : Avi → Changes → ℕ → ℕ

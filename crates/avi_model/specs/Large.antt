@@ -97,7 +97,8 @@ abbrev pub checks_of : Avi → (ℕ → ℕ) → List ℕ → List ℕ → List 
 checks_of n f o new =
     map (λ (x : Stood). at_most list_limit (length x.chunk.body)) (infos n)
     ++ (at_most part_limit (parts n)
-    ∷ (at_most limit32 (length (inner n.children n.left)) ∷ (flat_map (λ t. t.checks) (by_place (tables_placed f o)) ++ at_most 9223372036854775807 (length new) ∷ [])))
+    ∷ (at_most limit32 (length (inner n.children n.left))
+    ∷ (flat_map (λ t. t.checks) (by_place (tables_placed f o)) ++ at_most 9223372036854775807 (length new) ∷ [])))
 
 -- the checks of an edit
 abbrev pub all_checks : List ℕ → Items → List Check

@@ -32,7 +32,8 @@ lists_fit a e = units_fit (ends_file a) (units shut (new_cells (named a e.names)
 
 -- the size of a list at a place, where it changes
 abbrev pub list_patch : ℕ → Chunk → Chunk → List Patch
-list_patch at old new = if length old.body == length new.body then [] else patch (at + 4) (to_le_bytes w32 (length new.body))
+list_patch at old new =
+    if length old.body == length new.body then [] else patch (at + 4) (to_le_bytes w32 (length new.body))
 
 -- a stream's list: its size, then each unit
 abbrev pub strl_patches : Names → Site → List Patch
@@ -60,7 +61,8 @@ abbrev pub patches_of : Avi → Changes → List Patch
 patches_of a e =
     let n = named a e.names in
     size_patch riff (length (inner a.children a.left)) (length (inner (children_after a e) a.left))
-    ++ put_patches (flat_map (hdrl_patches e.names) (hdrl_site a)) (unit_patches (fill_of (riff_of n)) 12 (units shut (new_cells n e.infos)))
+    ++ put_patches (flat_map (hdrl_patches e.names) (hdrl_site a))
+    (unit_patches (fill_of (riff_of n)) 12 (units shut (new_cells n e.infos)))
 
 -- none where nothing changes
 abbrev pub patches_by : Avi → Changes → List Patch

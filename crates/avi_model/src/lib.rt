@@ -63,10 +63,12 @@ pub fn named_refusals_are_exact()
 /// edit that isn't too large has at most 2^63-1 bytes; the items that have an effect come to the same as all items; and no field of
 /// `bext` and no key is there.
 pub fn named_edits_come_to_the_same()
-    ensures idle { (o : List ℕ) (e : List EditItem) → effective (avi_kind.fields o) e ≡ [] → (avi_kind.new_file o e ≡ o) × (avi_kind.too_large o e ≡ None) }
+    ensures idle { (o : List ℕ) (e : List EditItem) → effective (avi_kind.fields o) e ≡ []
+        → (avi_kind.new_file o e ≡ o) × (avi_kind.too_large o e ≡ None) }
     ensures no_larger { (o : List ℕ) (e : List EditItem) → avi_kind.too_large o e ≡ None
         → (effective (avi_kind.fields o) e ≡ []) ⊎ (length (avi_kind.new_file o e) ≤ 2 ^ 63 - 1) }
-    ensures by_effect { (o : List ℕ) (e all : List EditItem) → e ≡ effective (avi_kind.fields o) all → SameEdit avi_kind o e all }
+    ensures by_effect { (o : List ℕ) (e all : List EditItem) → e ≡ effective (avi_kind.fields o) all
+        → SameEdit avi_kind o e all }
     ensures lawful { (o : List ℕ) → IsLawful (avi_kind.fields o) }
 {}
 
