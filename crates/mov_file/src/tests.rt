@@ -67,6 +67,7 @@ fn reads_a_movie(rt: HostRuntime) -> Result<(), Fail> {
     assert_eq!(rt; map.user.map(|atom| atom.at), Some(80));
     assert_eq!(rt; map.meta, None);
     let texts = map.fields.get(&FieldName::User(FourCc(*b"\xA9nam")));
+    assert_eq!(rt; texts.len(), 1);
     assert_eq!(rt; texts[0].raw.as_slice(), b"abc".as_slice());
     Ok(())
 }
