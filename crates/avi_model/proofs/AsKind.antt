@@ -18,7 +18,7 @@ use Rattle.opendml_index.specs.Index.{move}
 use Rattle.avi_model.specs.Avi.{avi_of, inner}
 use Rattle.avi_model.specs.Edited.{fields, changes, info_edit, new_file}
 use Rattle.avi_model.specs.Index.{renumbered}
-use Rattle.avi_model.specs.Kind.{avi_kind}
+use Rattle.avi_model.specs.Kind.{listed_kind}
 use Rattle.avi_model.specs.Large.{too_large, too_large_by, all_checks, new_avi}
 use Rattle.avi_model.specs.NewFile.{Items, edit_cuts, new_cells, laid, edited_file}
 use Rattle.avi_model.specs.Named.{riff_of}
@@ -76,7 +76,7 @@ in_place o e bytes s small room =
 
 -- ---- the law of the edited file
 
-edited : (o : List ℕ) (e : List EditItem) → IsBytes o → Supported o → broken Avi 0 (fields o) e Base ≡ None → too_large o e ≡ None → Edited avi_kind o e (new_file o e)
+edited : (o : List ℕ) (e : List EditItem) → IsBytes o → Supported o → broken Avi 0 (fields o) e Base ≡ None → too_large o e ≡ None → Edited listed_kind o e (new_file o e)
 edited o e bytes s rules small =
     let by = done (changes o e) (items_give (fields o) e rules).1 (checks (checked o e small)) in
     record {
@@ -96,7 +96,7 @@ edited o e bytes s rules small =
     done x sets (inl none) = subst (λ (y : Items). EditedBy o y (edited_file o y)) (sym none) (nothing_done o s)
     done x sets (inr all) = items_law o x bytes s sets all
 
-all_effective : (f : FieldMap) (e : List EditItem) → effective f (effective f e) ≡ effective f e
+pub all_effective : (f : FieldMap) (e : List EditItem) → effective f (effective f e) ≡ effective f e
 all_effective f [] = refl
 all_effective f (i ∷ e) = go (has_effect f i) refl (all_effective f e)
   where
@@ -106,7 +106,7 @@ all_effective f (i ∷ e) = go (has_effect f i) refl (all_effective f e)
 
 -- ---- edits that come to the same
 
-same_edit : (o : List ℕ) (e all : List EditItem) → e ≡ effective (fields o) all → SameEdit avi_kind o e all
+same_edit : (o : List ℕ) (e all : List EditItem) → e ≡ effective (fields o) all → SameEdit listed_kind o e all
 same_edit o e all is =
     let f = fields o in
     let same : effective f e ≡ effective f all = ap (effective f) is ∙ all_effective f all in
@@ -134,7 +134,7 @@ form_no_larger o e small = go (checked o e small)
     go (inl none) = inl none
     go (inr all) = inr (file_fits o (changes o e) all).1
 
-pub is_kind : IsKind avi_kind
+pub is_kind : IsKind listed_kind
 is_kind = record {
   edited = λ o e bytes w rules small. edited o e bytes ((exact o).0 w) rules small;
   idle = λ o e bytes w none. (idle_file o e none, idle_size o e none);

@@ -5,12 +5,12 @@ use Rattle.std.specs.List.{flat_map, AllByRecursion}
 use Rattle.std.proofs.lemmas.Bool.{ltb-false}
 use Rattle.container_model.specs.Splice.{shift}
 use Rattle.container_model.specs.Stood.{Stood}
-use Rattle.avi_model.specs.Avi.{avi_of, inner, spell_avi}
+use Rattle.avi_model.specs.Avi.{Avi, avi_of, inner, spell_avi}
 use Rattle.container_model.specs.Tables.{Table}
 use Rattle.avi_model.specs.Index.{base, indexes, olds}
 use Rattle.avi_model.specs.Support.{infos, parts, part_limit, list_limit}
 use Rattle.avi_model.specs.NewFile.{Items, edit_cuts, laid_file, edited_file}
-use Rattle.avi_model.specs.Large.{Check, at_most, limit32, index_checks, old_checks, Placed, put_placed, by_place, tables_placed, new_avi, all_checks}
+use Rattle.avi_model.specs.Large.{Check, at_most, limit32, index_checks, old_checks, Placed, put_placed, by_place, tables_placed, new_avi, checks_of, all_checks}
 use Rattle.container_model.specs.Tests.{first}
 use Rattle.container_model.proofs.Tests.{AllFalse, first_none}
 use Rattle.avi_model.proofs.Among.{Among, all_among, among_all, among_front, among_back, flat_among, map_among}
@@ -18,13 +18,17 @@ use Rattle.avi_model.proofs.Among.{Among, all_among, among_all, among_front, amo
 abbrev pub Passes : List Check → Type 0
 Passes cs = AllFalse cs
 
-pub record Fits (o : List ℕ) (e : Items) : Type 0 where
-  pub lists_short : AllByRecursion (λ x. length x.chunk.body ≤ list_limit) (infos (new_avi o e))
-  pub few_parts : parts (new_avi o e) ≤ part_limit
-  pub form_short : length (inner (new_avi o e).children (new_avi o e).left) ≤ limit32
-  pub entries_fit : AllByRecursion (λ t. Passes (index_checks (shift (edit_cuts (avi_of o) e)) t)) (indexes o)
-  pub rows_fit : AllByRecursion (λ t. Passes (old_checks (shift (edit_cuts (avi_of o) e)) (base o) t)) (olds o)
-  pub file_short : length (spell_avi (new_avi o e)) ≤ 9223372036854775807
+-- the sizes and numbers of the new parts and the new file, where places move, are small enough
+pub record FitsBy (n : Avi) (f : ℕ → ℕ) (o new : List ℕ) : Type 0 where
+  pub lists_short : AllByRecursion (λ x. length x.chunk.body ≤ list_limit) (infos n)
+  pub few_parts : parts n ≤ part_limit
+  pub form_short : length (inner n.children n.left) ≤ limit32
+  pub entries_fit : AllByRecursion (λ t. Passes (index_checks f t)) (indexes o)
+  pub rows_fit : AllByRecursion (λ t. Passes (old_checks f (base o) t)) (olds o)
+  pub file_short : length new ≤ 9223372036854775807
+
+abbrev pub Fits : List ℕ → Items → Type 0
+Fits o e = FitsBy (new_avi o e) (shift (edit_cuts (avi_of o) e)) o (spell_avi (new_avi o e))
 
 among_put : (t u : Placed) (us : List Placed) → (u ≡ t) ⊎ Among t us → Among t (put_placed u us)
 among_put t u [] (inl e) = inl e
@@ -42,17 +46,14 @@ among_sorted t [] i = i
 among_sorted t (u ∷ us) (inl e) = among_put t u (by_place us) (inl e)
 among_sorted t (u ∷ us) (inr i) = among_put t u (by_place us) (inr (among_sorted t us i))
 
--- Where nothing is too large, each size and each number fits.
-pub fits_of : (o : List ℕ) (i : Rattle.container_model.specs.Items.Item (List ℕ)) (e : Items) → first (all_checks o (i ∷ e)) ≡ None → Fits o (i ∷ e)
-unfolding laid_file
-fits_of o i e none =
-    let f = shift (edit_cuts (avi_of o) (i ∷ e)) in
-    let n = new_avi o (i ∷ e) in
+-- Where no check fails, each size and each number fits.
+pub checks_fit : (n : Avi) (f : ℕ → ℕ) (o new : List ℕ) → first (checks_of n f o new) ≡ None → FitsBy n f o new
+checks_fit n f o new none =
     let lists = map (λ (x : Stood). at_most list_limit (length x.chunk.body)) (infos n) in
     let tables = flat_map (λ (t : Placed). t.checks) (by_place (tables_placed f o)) in
-    let last = at_most 9223372036854775807 (length (edited_file o (i ∷ e))) in
-    let all = first_none (all_checks o (i ∷ e)) none in
-    let is : (c : Check) → Among c (all_checks o (i ∷ e)) → c.0 ≡ false = λ c j. among_all (λ c. c.0 ≡ false) (all_checks o (i ∷ e)) all c j in
+    let last = at_most 9223372036854775807 (length new) in
+    let all = first_none (checks_of n f o new) none in
+    let is : (c : Check) → Among c (checks_of n f o new) → c.0 ≡ false = λ c j. among_all (λ c. c.0 ≡ false) (checks_of n f o new) all c j in
     let rest = at_most part_limit (parts n) ∷ (at_most limit32 (length (inner n.children n.left)) ∷ (tables ++ last ∷ [])) in
     let back : (c : Check) → Among c rest → c.0 ≡ false = λ c j. is c (among_back lists rest c j) in
     let table : (p : Placed) → Among p (tables_placed f o) → Passes p.checks
@@ -63,19 +64,14 @@ fits_of o i e none =
       form_short = ltb-false limit32 (length (inner n.children n.left)) (back (at_most limit32 (length (inner n.children n.left))) (inr (inl refl)));
       entries_fit = all_among (λ t. Passes (index_checks f t)) (indexes o) (λ t j. table (record { at = t.at; checks = index_checks f t }) (among_front (map (λ (t : Table). record { at = t.at; checks = index_checks f t }) (indexes o)) (map (λ (t : Table). record { at = t.at; checks = old_checks f (base o) t }) (olds o)) _ (map_among (λ (t : Table). record { at = t.at; checks = index_checks f t }) (indexes o) t j)));
       rows_fit = all_among (λ t. Passes (old_checks f (base o) t)) (olds o) (λ t j. table (record { at = t.at; checks = old_checks f (base o) t }) (among_back (map (λ (t : Table). record { at = t.at; checks = index_checks f t }) (indexes o)) (map (λ (t : Table). record { at = t.at; checks = old_checks f (base o) t }) (olds o)) _ (map_among (λ (t : Table). record { at = t.at; checks = old_checks f (base o) t }) (olds o) t j)));
-      file_short = ltb-false 9223372036854775807 (length (edited_file o (i ∷ e))) (back last (inr (inr (among_back tables (last ∷ []) last (inl refl)))));
+      file_short = ltb-false 9223372036854775807 (length new) (back last (inr (inr (among_back tables (last ∷ []) last (inl refl)))));
     }
+
+-- Where nothing is too large, each size and each number fits.
+pub fits_of : (o : List ℕ) (i : Rattle.container_model.specs.Items.Item (List ℕ)) (e : Items) → first (all_checks o (i ∷ e)) ≡ None → Fits o (i ∷ e)
+unfolding laid_file
+fits_of o i e none = checks_fit (new_avi o (i ∷ e)) (shift (edit_cuts (avi_of o) (i ∷ e))) o (laid_file o (i ∷ e)) none
 
 -- The new file has a length that can be told, and its first form too.
 pub file_fits : (o : List ℕ) (e : Items) → first (all_checks o e) ≡ None → (length (edited_file o e) ≤ 9223372036854775807) × (length (inner (new_avi o e).children (new_avi o e).left) ≤ limit32)
-file_fits o e none =
-    let f = shift (edit_cuts (avi_of o) e) in
-    let n = new_avi o e in
-    let lists = map (λ (x : Stood). at_most list_limit (length x.chunk.body)) (infos n) in
-    let tables = flat_map (λ (t : Placed). t.checks) (by_place (tables_placed f o)) in
-    let last = at_most 9223372036854775807 (length (edited_file o e)) in
-    let all = first_none (all_checks o e) none in
-    let is : (c : Check) → Among c (all_checks o e) → c.0 ≡ false = λ c j. among_all (λ c. c.0 ≡ false) (all_checks o e) all c j in
-    let rest = at_most part_limit (parts n) ∷ (at_most limit32 (length (inner n.children n.left)) ∷ (tables ++ last ∷ [])) in
-    let back : (c : Check) → Among c rest → c.0 ≡ false = λ c j. is c (among_back lists rest c j) in
-    (ltb-false 9223372036854775807 (length (edited_file o e)) (back last (inr (inr (among_back tables (last ∷ []) last (inl refl))))), ltb-false limit32 (length (inner n.children n.left)) (back (at_most limit32 (length (inner n.children n.left))) (inr (inl refl))))
+file_fits o e none = let fit = checks_fit (new_avi o e) (shift (edit_cuts (avi_of o) e)) o (edited_file o e) none in (fit.file_short, fit.form_short)

@@ -26,6 +26,7 @@ pub mod InPlace
 pub mod Sorted
 pub mod Whys
 pub mod Exact
+pub mod NamesExact
 pub mod Edited
 pub mod Types
 pub mod Lies
@@ -47,6 +48,7 @@ pub mod Map
 pub mod Tabled
 pub mod Few
 pub mod AsKind
+pub mod AfterKind
 pub mod Merged
 pub mod OneSplice
 pub mod Turns

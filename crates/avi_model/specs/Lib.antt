@@ -13,6 +13,9 @@ pub mod Edited
 pub mod Large
 pub mod Map
 pub mod Room
+pub mod After
+pub mod RoomAfter
+pub mod KeptAfter
 pub mod Kind
 pub mod Splices
 pub mod Joined

@@ -9,12 +9,13 @@ use Rattle.container_model.specs.Chunk.{ends}
 use Rattle.container_model.specs.Stood.{Stood, only}
 use Rattle.container_model.specs.Tables.{Table, named, size_at}
 use Rattle.carrier_model.specs.Info.{is_type, list_run}
+use Rattle.carrier_model.specs.Names.{is_name}
 use Rattle.avi_index.specs.Rows.{row_offset, row_length, Base, from_start, from_movi, old_rows}
 use Rattle.avi_index.specs.Found.{is_based}
 use Rattle.opendml_index.specs.Index.{is_super, entries, super_places, entry_offset, entry_length, index_base}
 use Rattle.opendml_index.specs.Kinds.{SoundIndex, is_index_kind, is_standard_kind}
 use Rattle.opendml_index.specs.Checks.{entry_lies as lies_in}
-use Rattle.avi_model.specs.Avi.{forms, Avi, avi_of, top, others_at, hdrls, strls, is_movi, essence, body_span, first_movi}
+use Rattle.avi_model.specs.Avi.{forms, Avi, avi_of, kids, top, others_at, hdrls, strls, is_movi, essence, body_span, first_movi}
 use Rattle.avi_model.specs.Index.{streams, indexes, spans, base, olds, is_head, misses}
 
 -- ---- chunks
@@ -131,3 +132,14 @@ pub record Supported (b : List ℕ) : Type 0 where
   pub entries_sound : AllByRecursion (λ t. is_super t.body ≡ false → SoundEntries b t) (indexes b)
   pub based : AllByRecursion (λ t. is_based b (spans (indexes b)) (first_movi (avi_of b)) (old_rows t.body) ≡ true) (olds b)
   pub rows_sound : AllByRecursion (SoundRows (base b) (first_movi (avi_of b)) (indexes b)) (olds b)
+
+-- ---- names
+
+-- the names in a stream's list are small
+abbrev pub NamesSmall : Stood → Type 0
+NamesSmall x = AllByRecursion (λ (c : Stood). is_name c.chunk ≡ true → length c.chunk.body ≤ list_limit) (kids x)
+
+-- what a file needs to be supported where the names of streams are carriers too
+pub record SupportedNames (b : List ℕ) : Type 0 where
+  pub file : Supported b
+  pub names_small : AllByRecursion NamesSmall (strls (avi_of b))

@@ -22,7 +22,7 @@ use Rattle.opendml_index.specs.declared.head.HeadFault.TheVariants.{Short, Wrong
 use Rattle.avi_model.specs.Avi.{Avi, avi_of, first_movi, hdrls}
 use Rattle.avi_model.specs.Index.{streams, indexes, spans, base, olds}
 use Rattle.avi_model.specs.Support.{begins, movis, part_limit, list_limit, movi_spans, by_place}
-use Rattle.avi_model.specs.Reading.{Step, form_at, part_at, end_at, reading, parts_met}
+use Rattle.avi_model.specs.Reading.{Step, form_at, part_at, end_at, reading, named_reading, parts_met}
 
 -- a test, and why a file is refused where it holds
 abbrev pub Test : Type 0
@@ -104,11 +104,11 @@ old_tests base movi ts t = refusals (head_of t) (rows_tested base movi (spans ts
 
 -- ---- a file
 
--- all tests, in the order of reading
-abbrev pub tests : List ℕ → List Test
-tests b =
+-- all tests, in the order of reading, where these steps are met
+abbrev pub tests_of : List Step → List ℕ → List Test
+tests_of steps b =
     (not (begins b), UnknownKind)
-    ∷ (steps_tests 0 (reading b)
+    ∷ (steps_tests 0 steps
     ++ (list_tests (avi_of b)
     ++ (flat_map (stream_tests b) (streams b)
     ++ ((nat_lt part_limit (length (indexes b)), TooManyParts)
@@ -117,6 +117,14 @@ tests b =
     ++ (flat_map (base_tests b) (olds b)
     ++ flat_map (old_tests (base b) (first_movi (avi_of b)) (indexes b)) (olds b))))))))
 
+-- the tests where the lists of fields alone are carriers
+abbrev pub tests : List ℕ → List Test
+tests b = tests_of (reading b) b
+
 -- why a file is refused, if it is
 abbrev pub why : List ℕ → Option Why
 why b = first (tests b)
+
+-- why a file is refused where the names of streams are carriers too
+abbrev pub why_named : List ℕ → Option Why
+why_named b = first (tests_of (named_reading b) b)

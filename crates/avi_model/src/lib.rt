@@ -24,32 +24,52 @@ ghost use Rattle.avi_index.specs.Rows.{Base, old_row};
 ghost use Rattle.opendml_index.specs.Checks.{entries_tests};
 ghost use Rattle.avi_model.specs.Index.{indexes, olds, renumbered, spans, table_span};
 ghost use Rattle.opendml_index.specs.Index.{move, super_row, entry_row};
-ghost use Rattle.avi_model.specs.Support.{by_place, movi_spans, parts, Supported};
-ghost use Rattle.avi_model.specs.Why.{why};
+ghost use Rattle.avi_model.specs.Support.{by_place, movi_spans, parts, Supported, SupportedNames};
+ghost use Rattle.avi_model.specs.Why.{why, why_named};
 ghost use Rattle.avi_model.specs.Named.{Names, named};
 ghost use Rattle.avi_model.specs.NamesSet.{NamesSet};
 ghost use Rattle.avi_model.specs.NewFile.{moves};
 ghost use Rattle.avi_model.specs.Splices.{IsOneSplice};
-ghost use Rattle.field_model.specs.Kind.{IsKind};
+ghost use Rattle.field_model.specs.Kind.{IsKind, SameEdit};
+ghost use Rattle.field_model.specs.Lawful.{IsLawful};
 ghost use Rattle.field_model.specs.Update.{effective};
 ghost use Rattle.avi_model.specs.Edited.{changes, fields, new_file};
 ghost use Rattle.avi_model.specs.Joined.{old_form};
-ghost use Rattle.avi_model.specs.Kind.{avi_kind};
+ghost use Rattle.avi_model.specs.Kind.{avi_kind, listed_kind};
 ghost use Rattle.avi_model.specs.Large.{too_large, new_avi};
 ghost use Rattle.avi_model.specs.Room.{Room};
 ghost use Rattle.avi_model.specs.Map.{parts_of, bytes_in, essence_spans, supers, standards};
 
 use part_tree as _;
 
-/// AVI files have the laws of a kind of files, for both bases of `idx1`, and for OpenDML indexes in any number of forms: an
-/// accepted edit that isn't too large makes the old file edited, in place where it has room.
-pub fn avi_files_are_a_kind()
-    ensures { IsKind avi_kind }
+/// AVI files whose fields are those of the lists of fields alone have the laws of a kind of files, for both bases of `idx1`, and for
+/// OpenDML indexes in any number of forms: an accepted edit that isn't too large makes the old file edited, in place where it has
+/// room.
+pub fn listed_files_are_a_kind()
+    ensures { IsKind listed_kind }
 {}
 
 /// An AVI file is supported exactly where no test of the reading order holds.
 pub fn refusals_are_exact()
     ensures { (b : List ℕ) → (why b ≡ None → Supported b) × (Supported b → why b ≡ None) }
+{}
+
+/// The same where the names of streams are carriers too, of at most 16 MiB each.
+pub fn named_refusals_are_exact()
+    ensures { (b : List ℕ) → (why_named b ≡ None → SupportedNames b) × (SupportedNames b → why_named b ≡ None) }
+{}
+
+/// Of AVI files whose streams have names: an edit without effect makes the same file, and is never too large; the new file of another
+/// edit that isn't too large has at most 2^63-1 bytes; the items that have an effect come to the same as all items; and no field of
+/// `bext` and no key is there.
+pub fn named_edits_come_to_the_same()
+    ensures idle { (o : List ℕ) (e : List EditItem) → effective (avi_kind.fields o) e ≡ []
+        → (avi_kind.new_file o e ≡ o) × (avi_kind.too_large o e ≡ None) }
+    ensures no_larger { (o : List ℕ) (e : List EditItem) → avi_kind.too_large o e ≡ None
+        → (effective (avi_kind.fields o) e ≡ []) ⊎ (length (avi_kind.new_file o e) ≤ 2 ^ 63 - 1) }
+    ensures by_effect { (o : List ℕ) (e all : List EditItem) → e ≡ effective (avi_kind.fields o) all
+        → SameEdit avi_kind o e all }
+    ensures lawful { (o : List ℕ) → IsLawful (avi_kind.fields o) }
 {}
 
 /// Where lists change and nothing is too large, the new file is the old one with the spans of one list replaced: the form's

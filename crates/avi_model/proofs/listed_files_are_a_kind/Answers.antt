@@ -1,5 +1,5 @@
 use Rattle.avi_model.proofs.AsKind.{is_kind}
-use Rattle.avi_model.proofs.avi_files_are_a_kind.Goals as goal
+use Rattle.avi_model.proofs.listed_files_are_a_kind.Goals as goal
 
 pub returns : goal.returns
 returns c = is_kind
