@@ -10,3 +10,10 @@ pub mod Held
 pub mod Lined
 pub mod Streamed
 pub mod Placing
+pub mod Counting
+pub mod Grown
+pub mod Homes
+pub mod Parted
+pub mod Tabled
+pub mod Staged
+pub mod Fielded

@@ -149,7 +149,7 @@ sums_put f t (u ∷ us) = go (nat_lt t.at u.at) (sums_put f t us)
     go true e = sum_by-cons f (kept_of t) (map kept_of (u ∷ us))
     go false e = omega (arith, e, sum_by-cons f (kept_of u) (map kept_of (put_by_place t us)), sum_by-cons f (kept_of u) (map kept_of us))
 
-sums_placed : (f : IndexChunk → ℕ) (ts : List Table) → sum_by f (map kept_of (by_place ts)) ≡ sum_by f (map kept_of ts)
+pub sums_placed : (f : IndexChunk → ℕ) (ts : List Table) → sum_by f (map kept_of (by_place ts)) ≡ sum_by f (map kept_of ts)
 sums_placed f [] = refl
 sums_placed f (t ∷ ts) = omega (arith, sums_put f t (by_place ts), sums_placed f ts, sum_by-cons f (kept_of t) (map kept_of ts))
 

@@ -3,3 +3,7 @@ pub mod Forms
 pub mod Chosen
 pub mod Indexes
 pub mod Order
+pub mod Entries
+pub mod Map
+pub mod Fields
+pub mod Tables

@@ -2,7 +2,9 @@
 ghost use Rattle.std.specs.Prelude.{◌≡◌, IfOk, length, nat_lt};
 ghost use Rattle.avi_file.specs.Walk.{essence_of, is_essence};
 ghost use Rattle.avi_file.specs.Chosen.{is_tables, tables_with};
+ghost use Rattle.avi_file.specs.Fields.{infos_of as items_of};
 
+use crate::list::is_info;
 use part_tree::{NoMemory, Part, Role, Span};
 use std::alloc::Global;
 
@@ -52,6 +54,22 @@ pub fn movis_of(alloc: Global, parts: &[Part]) -> Result<Vec<Span>, NoMemory>
         }
     }
     Ok(movis)
+}
+
+/// The bodies of the lists of fields, in file order.
+pub fn infos_of(alloc: Global, parts: &[Part]) -> Result<Vec<Span>, NoMemory>
+    ensures { IfOk result (λ infos. infos.items ≡ items_of parts.now) }
+{
+    let mut infos = Vec::new(alloc);
+    'parts: for part in parts {
+        if is_info(part.role) {
+            match infos.push(part.body) {
+                Err(_) => return Err(NoMemory),
+                Ok(()) => {}
+            }
+        }
+    }
+    Ok(infos)
 }
 
 /// The bodies of the tables with this identifier, in file order.

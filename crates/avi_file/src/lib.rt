@@ -3,20 +3,30 @@
 #![tactic(auto)]
 
 mod chosen;
+mod entries;
+mod fields;
+mod file;
 mod form;
 mod hdrl;
 mod index;
 mod kind;
 mod list;
+mod map;
 mod order;
+mod tables;
 #[cfg(test)]
 mod tests;
 mod top;
 
-pub use chosen::{movis_of, tables_of};
+pub use chosen::{infos_of, movis_of, tables_of};
+pub use entries::{check_old, check_standards};
+pub use fields::read_lists;
+pub use file::read_avi;
 pub use form::{Forms, read_forms};
 pub use index::{IndexChunk, read_indexes};
 pub use kind::{Inside, is_list};
 pub use list::{Reading, read_chunks};
+pub use map::{AviMap, OldIndex};
 pub use order::{bodies_of, by_place, standards_of, supers_of};
+pub use tables::{Tables, read_tables};
 pub use top::Top;

@@ -26,7 +26,7 @@ pub struct Reading {
 }
 
 // Whether a part is a list of fields.
-fn is_info(role: Role) -> bool
+pub fn is_info(role: Role) -> bool
     ensures { result ≡ is_items role }
 {
     match role {

@@ -15,6 +15,7 @@ fn check_apart(chunks: &[IndexChunk]) -> Result<(), ReadFault>
     requires sound { AreSound chunks.now }
     ensures apart { (ts : List Table) → chunks.now ≡ map kept_of ts → TestsApart 0 ts result }
     ensures ascend { OnOk result (Ascends 0 (bodies_in chunks.now)) }
+    ensures never { result ≡ Err ReadFault.Depot → ⊥ }
 {
     let mut from = 0;
     'chunks: for chunk in chunks {
@@ -35,6 +36,7 @@ pub fn by_place(alloc: Global, chunks: &[IndexChunk]) -> Result<Vec<IndexChunk>,
     ensures sound { IfOk result (λ sorted. AreSound sorted.items) }
     ensures ascend { IfOk result (λ sorted. Ascends 0 (bodies_in sorted.items)) }
     ensures same { IfOk result (λ sorted. length sorted.items ≡ length chunks.now) }
+    ensures never { result ≡ Err ReadFault.Depot → ⊥ }
 {
     let mut sorted = match Vec::from_slice(alloc, chunks) {
         Err(_) => return Err(ReadFault::Memory),

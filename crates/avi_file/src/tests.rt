@@ -1,7 +1,7 @@
 // Worked files.
-use crate::{Inside, Reading, movis_of, read_chunks, read_forms};
-use me_disk::{Depot, Run, Slot, SparseDepot};
-use part_tree::{NoMemory, ReadFault, Role, Span, Why};
+use crate::{AviMap, Inside, Reading, read_avi, read_chunks};
+use me_disk::{Run, SparseDepot};
+use part_tree::{Base, FieldName, FourCc, NoMemory, ReadFault, Span, Why};
 use std::alloc::Global;
 use std::test::Fail;
 
@@ -9,8 +9,18 @@ use std::test::Fail;
 const LIST: [u8; 34] = *b"00db\x03\0\0\0abc.LIST\x04\0\0\0movi00db\x09\0\0\0..";
 
 // A form with a stream that has an index, with a list of fields, a movi and an index; a further form; and a tail.
-const FILE: &[u8] =
+const SHORT: &[u8] =
     b"RIFF\x6a\0\0\0AVI LIST\x20\0\0\0hdrlLIST\x14\0\0\0strlindx\x08\0\0\0\0\0\0\0\0\0\0\0LIST\x0e\0\0\0INFOINAM\x02\0\0\0A\0LIST\x10\0\0\0movi00db\x04\0\0\0abcdidx1\0\0\0\0idx1\0\0\0\0RIFF\x10\0\0\0AVIXLIST\x04\0\0\0movi..";
+
+// A form with a list of fields, a movi of one frame and an index of it; a further form; and a tail.
+const FILE: &[u8] =
+    b"RIFF\x56\0\0\0AVI LIST\x04\0\0\0hdrlLIST\x0e\0\0\0INFOINAM\x02\0\0\0A\0LIST\x10\0\0\0movi00db\x04\0\0\0abcdidx1\x10\0\0\x0000db\x10\0\0\0\x04\0\0\0\x04\0\0\0RIFF\x10\0\0\0AVIXLIST\x04\0\0\0movi..";
+
+// The same index, whose frame stands nowhere.
+const LOST: &[u8] =
+    b"RIFF\x40\0\0\0AVI LIST\x04\0\0\0hdrlLIST\x10\0\0\0movi00db\x04\0\0\0abcdidx1\x10\0\0\x0001db\x10\0\0\0\x04\0\0\0\x04\0\0\0";
+
+const NO_MOVI: &[u8] = b"RIFF\x10\0\0\0AVI LIST\x04\0\0\0hdrl";
 
 // A depot that holds these bytes.
 fn held(alloc: Global, bytes: &[u8]) -> Result<SparseDepot, NoMemory> {
@@ -18,6 +28,11 @@ fn held(alloc: Global, bytes: &[u8]) -> Result<SparseDepot, NoMemory> {
         return Err(NoMemory);
     };
     SparseDepot::new(alloc, Some(runs))
+}
+
+fn read(alloc: Global, bytes: &[u8]) -> Result<AviMap, ReadFault> {
+    let mut depot = held(alloc, bytes)?;
+    read_avi(alloc, &mut depot)
 }
 
 // So many chunks were met.
@@ -30,57 +45,53 @@ fn met(alloc: Global, met: u64) -> Reading {
 }
 
 #[test]
-fn chunks_are_parts_up_to_the_end(rt: HostRuntime) -> Result<(), Fail> {
+fn chunks_are_read_up_to_the_end(rt: HostRuntime) -> Result<(), Fail> {
     let mut depot = held(rt.alloc(), &LIST)?;
     let mut reading = met(rt.alloc(), 65_534);
-    let read = read_chunks(&mut reading, &mut depot, Inside::Further, 12, 24);
-    assert_eq!(rt; read, Ok(()));
-    assert_eq!(rt; reading.met, 65_535);
-    let last = reading.parts.last();
-    assert_eq!(rt; last.map(|part| part.role), Some(Role::Essence));
-    Ok(())
-}
-
-#[test]
-fn a_chunk_that_passes_the_end_is_refused(rt: HostRuntime) -> Result<(), Fail> {
-    let mut depot = held(rt.alloc(), &LIST)?;
-    let mut reading = met(rt.alloc(), 0);
-    let read = read_chunks(&mut reading, &mut depot, Inside::Items, 24, 34);
-    assert_eq!(rt; read, Err(ReadFault::Why(Why::Truncated { at: 24 })));
-    Ok(())
-}
-
-#[test]
-fn forms_are_read_up_to_the_tail(rt: HostRuntime) -> Result<(), Fail> {
-    let mut depot = held(rt.alloc(), FILE)?;
-    let Ok(len) = depot.len(Slot::Main) else {
-        return Ok(());
-    };
-    match read_forms(rt.alloc(), &mut depot, len) {
-        Err(fault) => assert_eq!(rt; Some(fault), None),
-        Ok(forms) => {
-            let parts = &forms.top.reading.parts;
-            assert_eq!(rt; forms.forms.len(), 2);
-            assert_eq!(rt; forms.top.reading.met, 9);
-            assert_eq!(rt; parts.len(), 10);
-            assert_eq!(rt; parts.iter().map(|part| part.at).last(), Some(138));
-            let movis = movis_of(rt.alloc(), parts)?;
-            assert_eq!(rt; movis.last().copied(), Some(Span { at: 134, len: 4 }));
-        }
+    let rows = [
+        (12, 24, Ok(())),
+        (24, 34, Err(ReadFault::Why(Why::Truncated { at: 24 }))),
+        (12, 24, Ok(())),
+        (12, 24, Err(ReadFault::Why(Why::TooManyParts))),
+    ];
+    for (start, end, wanted) in rows {
+        let read = read_chunks(&mut reading, &mut depot, Inside::Further, start, end);
+        assert_eq!(rt; read, wanted);
     }
     Ok(())
 }
 
 #[test]
-fn a_file_without_essence_is_refused(rt: HostRuntime) -> Result<(), Fail> {
-    let mut depot = held(rt.alloc(), b"RIFF\x10\0\0\0AVI LIST\x04\0\0\0hdrl")?;
-    let Ok(len) = depot.len(Slot::Main) else {
+fn files_are_refused(rt: HostRuntime) -> Result<(), Fail> {
+    let rows = [
+        (SHORT, Why::IndexShort { at: 36 }),
+        (LOST, Why::IndexBase),
+        (NO_MOVI, Why::NoMovi),
+        (&FILE[..110], Why::Truncated { at: 94 }),
+        (&FILE[..11], Why::UnknownKind),
+    ];
+    for (bytes, wanted) in rows {
+        let why = match read(rt.alloc(), bytes) {
+            Err(ReadFault::Why(why)) => Some(why),
+            _ => None,
+        };
+        assert_eq!(rt; why, Some(wanted));
+    }
+    Ok(())
+}
+
+#[test]
+fn a_file_has_its_map(rt: HostRuntime) -> Result<(), Fail> {
+    let Ok(map) = read(rt.alloc(), FILE) else {
         return Ok(());
     };
-    let fault = match read_forms(rt.alloc(), &mut depot, len) {
-        Ok(_) => None,
-        Err(fault) => Some(fault),
-    };
-    assert_eq!(rt; fault, Some(ReadFault::Why(Why::NoMovi)));
+    assert_eq!(rt; map.forms.len(), 2);
+    assert_eq!(rt; map.parts.len(), 7);
+    assert_eq!(rt; map.movis.last().copied(), Some(Span { at: 114, len: 4 }));
+    assert_eq!(rt; map.idx1.map(|old| old.base), Some(Base::Movi(54)));
+    assert_eq!(rt; map.entries, 1);
+    let names = map.fields.get(&FieldName::Info(FourCc(*b"INAM")));
+    assert_eq!(rt; names.len(), 1);
+    assert_eq!(rt; names[0].raw.as_slice(), b"A\0".as_slice());
     Ok(())
 }

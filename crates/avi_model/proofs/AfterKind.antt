@@ -18,7 +18,7 @@ use Rattle.avi_model.proofs.Fit.{checks_fit}
 
 -- ---- an edit without effect
 
-none_changed : (o : List ℕ) (e : List EditItem) → effective (all_fields o) e ≡ [] → all_changes o e ≡ record { infos = []; names = [] }
+pub none_changed : (o : List ℕ) (e : List EditItem) → effective (all_fields o) e ≡ [] → all_changes o e ≡ record { infos = []; names = [] }
 none_changed o e none = ap (λ (items : List EditItem). changed_by (filter_map raw_item items)) none
 
 pub idle_file : (o : List ℕ) (e : List EditItem) → effective (all_fields o) e ≡ [] → file_after o e ≡ o
@@ -29,7 +29,7 @@ idle_size o e none = ap (λ (x : List EditItem). large_by x o (all_changes o e))
 
 -- ---- what is checked where something changes
 
-checked : (o : List ℕ) (e : List EditItem) → large_after o e ≡ None → (effective (all_fields o) e ≡ []) ⊎ (first (checks_after o (all_changes o e)) ≡ None)
+pub checked : (o : List ℕ) (e : List EditItem) → large_after o e ≡ None → (effective (all_fields o) e ≡ []) ⊎ (first (checks_after o (all_changes o e)) ≡ None)
 checked o e small = go (effective (all_fields o) e) refl
   where
     go : (x : List EditItem) → effective (all_fields o) e ≡ x → (effective (all_fields o) e ≡ []) ⊎ (first (checks_after o (all_changes o e)) ≡ None)

@@ -14,7 +14,7 @@ pad_again form n m pad more other e l (inl h) = rw e (inl h)
 pad_again form n m pad more other e l (inr h) = rw e (inr (h.0, nil_from_length other (omega (arith, l, ap length h.1))))
 
 module _ (ws : List Write) where
-  pads_again : (at : ℕ) (cs : List Chunk) (left : List ℕ) → Pads cs left → Pads (renewed ws at cs) left
+  pub pads_again : (at : ℕ) (cs : List Chunk) (left : List ℕ) → Pads cs left → Pads (renewed ws at cs) left
   pads_again at [] left h = tt
   pads_again at (c ∷ cs) left h =
       let next = at + length (spell c) in (
@@ -23,7 +23,7 @@ module _ (ws : List Write) where
         pads_again next cs left h.1,
       )
 
-  plain_again : (at : ℕ) (cs : List Chunk) → ArePlain cs → ArePlain (renewed ws at cs)
+  pub plain_again : (at : ℕ) (cs : List Chunk) → ArePlain cs → ArePlain (renewed ws at cs)
   plain_again at [] h = tt
   plain_again at (c ∷ cs) h = (record { form_is = h.0.form_is; id_len = h.0.id_len }, plain_again (at + length (spell c)) cs h.1)
 

@@ -163,20 +163,39 @@ module _ (e : Names) where
           (follow_both [] (cuts_from ends_too next cs) at to next goal end (goal + length (spell_all more)) (only p (stood at (c ∷ []))) (only p (stood to (c ∷ []))) (only p (stood next cs)) (only p (stood goal more)) (omega (arith, long))
           (block_copy at to (length (spell c))) block first rest)
 
+  -- the first hdrl is short enough for its size
+  abbrev pub HdrlSmall : Bool → List Chunk → Type 0
+  HdrlSmall ends_too [] = Unit {0}
+  HdrlSmall ends_too (c ∷ cs) = (is_hdrl c ≡ true → length (hdrl_named e (ends_too && is_nil cs) c).body < 2 ^ 32) × (is_hdrl c ≡ false → HdrlSmall ends_too cs)
+
+  pub all_small : (ends_too : Bool) (cs : List Chunk) → length (spell_all (children_named e ends_too cs)) < 2 ^ 32 → HdrlSmall ends_too cs
+  all_small ends_too [] lt = tt
+  all_small ends_too (c ∷ cs) lt = ((λ i. here i), (λ i. all_small ends_too cs (more i)))
+    where
+      here : is_hdrl c ≡ true → length (hdrl_named e (ends_too && is_nil cs) c).body < 2 ^ 32
+      here i =
+          let l : length (spell_all (hdrl_named e (ends_too && is_nil cs) c ∷ cs)) < 2 ^ 32 = subst (λ (b : Bool). length (spell_all (cond b (hdrl_named e (ends_too && is_nil cs) c ∷ cs) (c ∷ children_named e ends_too cs))) < 2 ^ 32) i lt in
+          omega (arith, l, spell_long (hdrl_named e (ends_too && is_nil cs) c), length-append (spell (hdrl_named e (ends_too && is_nil cs) c)) (spell_all cs))
+
+      more : is_hdrl c ≡ false → length (spell_all (children_named e ends_too cs)) < 2 ^ 32
+      more i =
+          let l : length (spell_all (c ∷ children_named e ends_too cs)) < 2 ^ 32 = subst (λ (b : Bool). length (spell_all (cond b (hdrl_named e (ends_too && is_nil cs) c ∷ cs) (c ∷ children_named e ends_too cs))) < 2 ^ 32) i lt in
+          omega (arith, l, length-append (spell c) (spell_all (children_named e ends_too cs)))
+
   -- the index chunks of the streams' lists in the first hdrl
   abbrev pub stream_in : List Stood → List Stood
   stream_in xs = all_in e (flat_map kids (first_of (only is_hdrl xs)))
 
-  pub streams_follow : (ends_too : Bool) (at to : ℕ) (cs : List Chunk) → AreChildren cs → length (spell_all (children_named e ends_too cs)) < 2 ^ 32
+  pub streams_follow : (ends_too : Bool) (at to : ℕ) (cs : List Chunk) → AreChildren cs → HdrlSmall ends_too cs
       → Follows (cuts_from ends_too at cs) at to (at + length (spell_all cs)) (stream_in (stood at cs)) (stream_in (stood to (children_named e ends_too cs)))
   streams_follow ends_too at to [] h lt = follow_none [] at to (at + 0)
-  streams_follow ends_too at to (c ∷ cs) h lt = go (is_hdrl c) refl lt (λ i l. streams_follow ends_too (at + length (spell c)) (to + length (spell c)) cs (behind_one c cs h i) l)
+  streams_follow ends_too at to (c ∷ cs) h lt = go (is_hdrl c) refl (λ i. streams_follow ends_too (at + length (spell c)) (to + length (spell c)) cs (behind_one c cs h i) (lt.1 i))
     where
-      go : (t : Bool) → is_hdrl c ≡ t → length (spell_all (cond t (hdrl_named e (ends_too && is_nil cs) c ∷ cs) (c ∷ children_named e ends_too cs))) < 2 ^ 32
-          → (is_hdrl c ≡ false → length (spell_all (children_named e ends_too cs)) < 2 ^ 32 → Follows (cuts_from ends_too (at + length (spell c)) cs) (at + length (spell c)) (to + length (spell c)) (at + length (spell c) + length (spell_all cs)) (stream_in (stood (at + length (spell c)) cs)) (stream_in (stood (to + length (spell c)) (children_named e ends_too cs))))
+      go : (t : Bool) → is_hdrl c ≡ t
+          → (is_hdrl c ≡ false → Follows (cuts_from ends_too (at + length (spell c)) cs) (at + length (spell c)) (to + length (spell c)) (at + length (spell c) + length (spell_all cs)) (stream_in (stood (at + length (spell c)) cs)) (stream_in (stood (to + length (spell c)) (children_named e ends_too cs))))
           → Follows (flat_map (hdrl_cuts e) (cond t (record { at = at; ends = ends_too && is_nil cs; stream = 0; chunk = c } ∷ []) (hdrl_from ends_too (at + length (spell c)) cs))) at to (at + length (spell_all (c ∷ cs))) (stream_in (stood at (c ∷ cs)))
           (stream_in (stood to (cond t (hdrl_named e (ends_too && is_nil cs) c ∷ cs) (c ∷ children_named e ends_too cs))))
-      go true i lt again =
+      go true i again =
           let o = h.1.0 i in
           let new = hdrl_named e (ends_too && is_nil cs) c in
           let site : Site = record { at = at; ends = ends_too && is_nil cs; stream = 0; chunk = c } in
@@ -189,11 +208,11 @@ module _ (e : Names) where
           let olds : stream_in (x ∷ stood next cs) ≡ all_in e (kids x) = ap (λ (b : Bool). all_in e (flat_map kids (first_of (cond b (x ∷ only is_hdrl (stood next cs)) (only is_hdrl (stood next cs)))))) i ∙ ap (all_in e) (append-nil (kids x)) in
           let news : stream_in (y ∷ stood goal cs) ≡ all_in e (kids y) = ap (λ (b : Bool). all_in e (flat_map kids (first_of (cond b (y ∷ only is_hdrl (stood goal cs)) (only is_hdrl (stood goal cs)))))) typed ∙ ap (all_in e) (append-nil (kids y)) in
           let long : next + length (spell_all cs) ≡ end = omega (arith, length-append (spell c) (spell_all cs)) in
-          let inside : length (spell_all (kids_of (ends_too && is_nil cs) c)) < 2 ^ 32 = omega (arith, lt, length-append (spell new) (spell_all cs), spell_long new, list_length c (kids_of (ends_too && is_nil cs) c) o.0) in
+          let inside : length (spell_all (kids_of (ends_too && is_nil cs) c)) < 2 ^ 32 = omega (arith, lt.0 i, list_length c (kids_of (ends_too && is_nil cs) c) o.0) in
           let copied = block_same next goal (next + length (spell_all cs)) (goal + length (spell_all cs)) next goal end (goal + length (spell_all cs)) [] refl refl (sym long) refl (block_copy next goal (length (spell_all cs))) in
           follow_same (hdrl_cuts e site ++ []) at to end (all_in e (kids x)) (all_in e (kids y)) (stream_in (stood at (c ∷ cs))) (stream_in (stood to (new ∷ cs))) olds news
           (follow_before (hdrl_cuts e site) [] at to next goal end (goal + length (spell_all cs)) (all_in e (kids x)) (all_in e (kids y)) (omega (arith, long)) copied (hdrl_follows e (ends_too && is_nil cs) c h.0.0 o.0 o.1 at to inside))
-      go false i lt again =
+      go false i again =
           let next = at + length (spell c) in
           let goal = to + length (spell c) in
           let more = children_named e ends_too cs in
@@ -204,7 +223,7 @@ module _ (e : Names) where
           let news : stream_in (y ∷ stood goal more) ≡ stream_in (stood goal more) = ap (λ (b : Bool). all_in e (flat_map kids (first_of (cond b (y ∷ only is_hdrl (stood goal more)) (only is_hdrl (stood goal more)))))) i in
           follow_same (cuts_from ends_too next cs) at to end (stream_in (stood next cs)) (stream_in (stood goal more)) (stream_in (stood at (c ∷ cs))) (stream_in (stood to (c ∷ more))) olds news
           (follow_wider (cuts_from ends_too next cs) at to (length (spell c)) (next + length (spell_all cs)) end (stream_in (stood next cs)) (stream_in (stood goal more)) (omega (arith, length-append (spell c) (spell_all cs)))
-          (again i (omega (arith, lt, length-append (spell c) (spell_all more)))))
+          (again i))
 
   -- ---- the same as a move of places
 

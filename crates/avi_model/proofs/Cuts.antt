@@ -52,13 +52,13 @@ module _ (ws : List Write) where
   none_length (a ∷ x) [] e = absurd (omega arith)
   none_length (a ∷ x) (b ∷ y) e = refl
 
-  behind_length : (a : Avi) → length (behind (renewed_avi ws a)) ≡ length (behind a)
+  pub behind_length : (a : Avi) → length (behind (renewed_avi ws a)) ≡ length (behind a)
   behind_length a = omega (arith, length-append (spell_all (renewed ws (others_place a) a.others)) a.tail, length-append (spell_all a.others) a.tail, renewed_length ws (others_place a) a.others)
 
-  ends_same : (a : Avi) → ends_file (renewed_avi ws a) ≡ ends_file a
+  pub ends_same : (a : Avi) → ends_file (renewed_avi ws a) ≡ ends_file a
   ends_same a = ap (λ (b : Bool). is_nil a.left && (is_nil a.pad && b)) (none_length (behind (renewed_avi ws a)) (behind a) (behind_length a))
 
-  pad_same : (old new : ℕ) (pad x y : List ℕ) → length x ≡ length y → new_pad old new pad x ≡ new_pad old new pad y
+  pub pad_same : (old new : ℕ) (pad x y : List ℕ) → length x ≡ length y → new_pad old new pad x ≡ new_pad old new pad y
   pad_same old new pad x y e = rw (none_length x y e) refl
 
   -- the same spans

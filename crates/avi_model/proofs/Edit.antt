@@ -93,7 +93,7 @@ live_all P (c ∷ cs) h = go (is_padding c) (live_all P cs h.1)
     go true g = g
     go false g = (h.0, g)
 
-pad_stands : (old n : ℕ) (pad more : List ℕ) → PadStands riff old pad more → PadStands riff n (new_pad old n pad more) more
+pub pad_stands : (old n : ℕ) (pad more : List ℕ) → PadStands riff old pad more → PadStands riff n (new_pad old n pad more) more
 pad_stands old n pad more h = go (eqb old n) refl
   where
     odd : (t u : Bool) → eqb (n % 2) 1 ≡ t → is_nil more ≡ u → PadStands riff n (cond (t && not u) (0 ∷ []) []) more
@@ -159,12 +159,12 @@ module _ (a : Avi) (e : Items) where
   abbrev pub solid : List Chunk
   solid = flat_map live (map cell_of a.children)
 
-  new_plain : ArePlain a.children → ArePlain (new_children a e)
+  pub new_plain : ArePlain a.children → ArePlain (new_children a e)
   new_plain h =
       lay_all IsPlain (riff_fill (ends_file a)) (record { on_pads = λ c h. record { form_is = h.form_is; id_len = h.id_len }; on_fill = λ last slot k. fill_all IsPlain (λ body. made_plain (codes "JUNK") body refl) (ends_file a) last slot k }) shut
       (new_cells a e) tt (cells_acted IsPlain (act_of e solid) (makes_lists IsPlain (λ body. made_plain (codes "LIST") body refl) e solid) (map cell_of a.children) (cells_all IsPlain a.children h))
 
-  new_padded : Pads a.children a.left → Pads (new_children a e) a.left
+  pub new_padded : Pads a.children a.left → Pads (new_children a e) a.left
   new_padded h =
       lay_pads (riff_fill (ends_file a)) (λ last slot k. fill_all IsPadded (λ body. made_padded (codes "JUNK") body) (ends_file a) last slot k) a.left shut (new_cells a e) tt
       (pads_acted (act_of e solid) (makes_lists IsPadded (λ body. made_padded (codes "LIST") body) e solid) (map cell_of a.children) a.left (cells_pads a.children a.left h))
@@ -200,16 +200,19 @@ module _ (a : Avi) (e : Items) where
 
   -- ---- fields
 
-  pub laid_fields : (name : List ℕ) → Readable a → length (inner (new_children a e) a.left) < 2 ^ 32 → SetsInfo e → Ready
-      → info_values (spell_avi (laid a e)) name ≡ Rattle.container_model.specs.Items.updated e name (list_values info info_items name a.children)
-  laid_fields name r lt sets ready =
+  pub values_updated : (name : List ℕ) → SetsInfo e → Ready → list_values info info_items name (new_children a e) ≡ Rattle.container_model.specs.Items.updated e name (list_values info info_items name a.children)
+  values_updated name sets ready =
       let v = values_held info info_items name in
-      ap (λ (x : Avi). list_values info info_items name x.children) (avi_again (laid a e) (laid_readable r lt)) ∙ seen v (λ c. refl) padding
+      seen v (λ c. refl) padding
       ∙ lists_values info info_items SetsInfo InfoReady ItemsSmall info_rereads part_sets closed_is fresh_is behind_hdrl e name solid sets ready
       ∙ ap (Rattle.container_model.specs.Items.updated e name) (view_cells v padding a.children)
     where
       padding : (c : Chunk) → is_padding c ≡ true → values_held info info_items name c ≡ []
       padding c p = ap (λ (b : Bool). cond b (values info_items name (list_run c).chunks) []) (Rattle.carrier_model.proofs.Info.padding_no_list (codes "INFO") c p)
+
+  pub laid_fields : (name : List ℕ) → Readable a → length (inner (new_children a e) a.left) < 2 ^ 32 → SetsInfo e → Ready
+      → info_values (spell_avi (laid a e)) name ≡ Rattle.container_model.specs.Items.updated e name (list_values info info_items name a.children)
+  laid_fields name r lt sets ready = ap (λ (x : Avi). list_values info info_items name x.children) (avi_again (laid a e) (laid_readable r lt)) ∙ values_updated name sets ready
 
   -- ---- nodes
 

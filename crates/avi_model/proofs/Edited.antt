@@ -1,5 +1,5 @@
 -- The law: for every edit that keeps the rules, after which nothing is too large, the new file is the old one edited.
-use Rattle.std.proofs.Common.{◌≡◌, ℕ, suc, ◌^◌, ◌<◌, ◌≤◌, Bool, true, false, cond, List, [], ◌∷◌, ◌++◌, length, map, Option, Some, None, refl, sym, ap, subst, ◌∙◌, arith, inl, inr}
+use Rattle.std.proofs.Common.{◌≡◌, ℕ, suc, ◌^◌, ◌<◌, Bool, true, false, cond, List, [], ◌∷◌, ◌++◌, length, map, Option, Some, None, refl, sym, ap, subst, ◌∙◌, arith, inl, inr}
 use Rattle.std.specs.Prelude.{◌||◌, ◌⊎◌, option_map}
 use Rattle.std.specs.Str.{bytes_eq}
 use Rattle.std.specs.List.{filter_map, list_any, cons_option, AllByRecursion}
@@ -22,15 +22,15 @@ use Rattle.part_tree.specs.declared.field.Change.TheVariants.{Set, Remove}
 use Rattle.container_model.specs.Chunk.{riff, Chunk}
 use Rattle.container_model.specs.Items.{updated, values}
 use Rattle.container_model.specs.Tests.{first}
-use Rattle.container_model.specs.Splice.{Cut, splice, Ascend, shift}
+use Rattle.container_model.specs.Splice.{Cut, splice, Ascend, Outside, shift}
 use Rattle.container_model.proofs.Items.{same_true, same_refl}
 use Rattle.carrier_model.specs.Info.{one_of, info, info_items, SetsInfo}
-use Rattle.carrier_model.specs.Lists.{list_values, Node, place_lists, place_by, place_nth, part_of, has_list}
-use Rattle.avi_model.specs.Avi.{Avi as AviFile, avi_of, inner, spell_avi, hdrls}
+use Rattle.carrier_model.specs.Lists.{list_values, Node, place_by, place_nth, has_list}
+use Rattle.avi_model.specs.Avi.{Avi as AviFile, avi_of, inner, spell_avi}
 use Rattle.opendml_index.specs.Index.{move}
 use Rattle.avi_model.specs.Index.{writes, renumbered}
 use Rattle.avi_model.specs.Pieces.{pieces}
-use Rattle.avi_model.specs.Support.{Supported, movis}
+use Rattle.avi_model.specs.Support.{Supported}
 use Rattle.avi_model.specs.NewFile.{Items, home, new_children, edit_cuts, laid, moves, laid_file, edited_file}
 use Rattle.carrier_model.specs.RiffForm.{with_size}
 use Rattle.avi_model.specs.Kept.{Kept, kept, placed}
@@ -39,12 +39,11 @@ use Rattle.avi_model.specs.Large.{new_avi, all_checks}
 use Rattle.avi_model.proofs.Read.{renewed_avi}
 use Rattle.avi_model.proofs.Frames.{same_cuts, ascends, over, again as read_again}
 use Rattle.avi_model.proofs.Spans.{laid_spliced}
-use Rattle.avi_model.proofs.Essence.{facts}
 use Rattle.avi_model.proofs.Fit.{Fits, fits_of}
-use Rattle.avi_model.proofs.Kept.{fields_updated, kept_placed, pieces_same}
-use Rattle.avi_model.proofs.Lists.{new_begins, new_forms_end, new_forms_read, new_forms_long, new_hdrls, new_lists_end, new_movis}
-use Rattle.avi_model.proofs.Supports.{new_streams_sound, new_places_sound, new_few_indexes, new_indexes_apart, new_entries_sound}
-use Rattle.avi_model.proofs.OldIndex.{new_based, new_rows_sound}
+use Rattle.avi_model.proofs.Kept.{fields_updated}
+use Rattle.avi_model.proofs.Blanked.{pieces_same}
+use Rattle.avi_model.proofs.Listed.{fits_after, kept_placed, listed_laid, lists_stay, new_is as laid_is}
+use Rattle.avi_model.proofs.LaidSupported.{laid_supported}
 use Rattle.avi_model.proofs.Rules.{IsInfoName, HasNoLanguage, AreInfo, items_give}
 
 -- what an edit of items is to the old file
@@ -81,38 +80,22 @@ module _ (o : List ℕ) (bytes : IsBytes o) (s : Supported o) (e : Items) (fit :
   small : length (inner (new_children (renewed_avi (writes (move (shift (edit_cuts (avi_of o) e))) o) (avi_of o)) e) (avi_of o).left) < 2 ^ 32
   small = omega (arith, fit.form_short, ap (λ (x : AviFile). length (inner x.children x.left)) new_is)
 
-  reads : avi_of (laid_file o e) ≡ new_avi o e
-  reads = (facts o bytes s e small).new_reads ∙ sym new_is
-
-  new_supported : Supported (laid_file o e)
-  new_supported =
-      let r = (facts o bytes s e small).new_reads in
-      record {
-        is_avi = new_begins o bytes s e small sets;
-        forms_end = new_forms_end o bytes s e small sets;
-        forms_long = new_forms_long o bytes s e small sets;
-        forms_read = new_forms_read o bytes s e small sets;
-        lists_end = subst (λ (x : AviFile). AllByRecursion Rattle.avi_model.specs.Support.ListEnds (Rattle.avi_model.specs.Support.opened x)) (sym r) (new_lists_end o bytes s e small sets);
-        few_parts = subst (λ (x : AviFile). Rattle.avi_model.specs.Support.parts x ≤ Rattle.avi_model.specs.Support.part_limit) (sym reads) fit.few_parts;
-        lists_small = subst (λ (x : AviFile). AllByRecursion (λ y. length y.chunk.body ≤ Rattle.avi_model.specs.Support.list_limit) (Rattle.avi_model.specs.Support.infos x)) (sym reads) fit.lists_short;
-        some_hdrl = omega (arith, s.some_hdrl, ap (λ (x : AviFile). length (hdrls x)) r, new_hdrls o bytes s e small sets);
-        some_movi = omega (arith, s.some_movi, ap (λ (x : AviFile). length (movis x)) r, new_movis o bytes s e small sets);
-        streams_sound = new_streams_sound o bytes s e small sets fit;
-        places_sound = new_places_sound o bytes s e small sets fit;
-        few_indexes = new_few_indexes o bytes s e small sets fit;
-        indexes_apart = new_indexes_apart o bytes s e small sets fit;
-        entries_sound = new_entries_sound o bytes s e small sets fit;
-        based = new_based o bytes s e small sets fit;
-        rows_sound = new_rows_sound o bytes s e small sets fit;
-      }
+  is : laid_file o e ≡ spell_avi (laid (renewed_avi (writes (move (shift (edit_cuts (avi_of o) e))) o) (avi_of o)) e)
+  is = laid_is o bytes s e small
 
   some_done : EditedBy o e (laid_file o e)
-  some_done = record {
-    supported = new_supported;
-    values = λ id. fields_updated o bytes s e small sets id;
-    kept_in_order = kept_placed o bytes s e small sets fit;
-    same_pieces = pieces_same o bytes s e small sets fit;
-  }
+  some_done =
+      let f = shift (edit_cuts (avi_of o) e) in
+      let Free = λ (p : ℕ). Outside (edit_cuts (avi_of o) e) p in
+      let after = laid (renewed_avi (writes (move (shift (edit_cuts (avi_of o) e))) o) (avi_of o)) e in
+      let facts = listed_laid o bytes s e small in
+      let fits = fits_after o bytes s e small fit in
+      record {
+        supported = subst Supported (sym is) (laid_supported o bytes s f Free after facts (lists_stay o bytes s e small sets) fits);
+        values = λ id. fields_updated o bytes s e small sets id;
+        kept_in_order = kept_placed o bytes s e small fit sets;
+        same_pieces = ap pieces is ∙ pieces_same o bytes s f Free after facts fits;
+      }
 
 pub items_law : (o : List ℕ) (e : Items) → IsBytes o → Supported o → SetsInfo e → first (all_checks o e) ≡ None → EditedBy o e (edited_file o e)
 items_law o [] bytes s sets none = nothing_done o s
@@ -120,7 +103,7 @@ items_law o (i ∷ e) bytes s sets none = some_done o bytes s (i ∷ e) (fits_of
 
 -- ---- the fields
 
-same_either : (a b : List ℕ) → bytes_eq a b ≡ bytes_eq b a
+pub same_either : (a b : List ℕ) → bytes_eq a b ≡ bytes_eq b a
 same_either a b = go (bytes_eq a b) (bytes_eq b a) refl refl
   where
     go : (t u : Bool) → bytes_eq a b ≡ t → bytes_eq b a ≡ u → t ≡ u
@@ -188,7 +171,7 @@ unheld id n (c ∷ cs) = ap (λ (x : List (List ℕ)). x ++ values info_items id
     one false e = refl
     one true e = ap (λ (u : Bool). cond u (c.body ∷ []) []) (ap (one_of info_ids) (sym (same_true id c.id e)) ∙ n)
 
-unheld_lists : (id : List ℕ) → one_of info_ids id ≡ false → (cs : List Chunk) → list_values info info_items id cs ≡ []
+pub unheld_lists : (id : List ℕ) → one_of info_ids id ≡ false → (cs : List Chunk) → list_values info info_items id cs ≡ []
 unheld_lists id n [] = refl
 unheld_lists id n (c ∷ cs) = ap (λ (x : List (List ℕ)). x ++ list_values info info_items id cs) (one (info.is c)) ∙ unheld_lists id n cs
   where
@@ -200,7 +183,7 @@ unheld_lists id n (c ∷ cs) = ap (λ (x : List (List ℕ)). x ++ list_values in
 abbrev pub NameFields : List RawItem → Type 0
 NameFields rs = AllByRecursion (λ (r : RawItem). IsFieldName r.name) rs
 
-unnamed : (id : FourCc) → one_of info_ids id.0 ≡ false → (rs : List RawItem) → NameFields rs → updated_values rs (Info id) [] ≡ []
+pub unnamed : (id : FourCc) → one_of info_ids id.0 ≡ false → (rs : List RawItem) → NameFields rs → updated_values rs (Info id) [] ≡ []
 unnamed id n [] h = refl
 unnamed id n (r ∷ rs) h = ap (λ (t : Bool). updated_values rs (Info id) (cond t (Rattle.field_model.specs.Update.listed r.value) [])) (apart r.name h.0) ∙ unnamed id n rs h.1
   where
@@ -229,7 +212,7 @@ given (User id) Remove rs n h = (n, h)
 given (Key k) Remove rs n h = (n, h)
 given (Stream k) Remove rs n h = (n, h)
 
-named_raw : (f : FieldMap) (e : List EditItem) → NamesFields e → NameFields (raw_items f e)
+pub named_raw : (f : FieldMap) (e : List EditItem) → NamesFields e → NameFields (raw_items f e)
 named_raw f [] h = tt
 named_raw f (i ∷ e) h = go (has_effect f i) (named_raw f e h.1)
   where

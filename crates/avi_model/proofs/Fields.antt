@@ -23,7 +23,7 @@ abbrev pub ListsEnd : List Chunk → Type 0
 ListsEnd cs = AllByRecursion (λ c. is_type (codes "INFO") c ≡ true → (list_run c).stop ≡ ends) cs
 
 module _ (ws : List Write) where
-  values_same : (name : List ℕ) (at : ℕ) (cs : List Chunk) → AllAlone ws at cs → list_values info info_items name (renewed ws at cs) ≡ list_values info info_items name cs
+  pub values_same : (name : List ℕ) (at : ℕ) (cs : List Chunk) → AllAlone ws at cs → list_values info info_items name (renewed ws at cs) ≡ list_values info info_items name cs
   values_same name at [] h = refl
   values_same name at (c ∷ cs) h = ap (λ (x : List (List ℕ)). x ++ list_values info info_items name (renewed ws (at + length (spell c)) cs)) (one h.0.1.0) ∙ ap (λ (x : List (List ℕ)). values_held info info_items name c ++ x) (values_same name (at + length (spell c)) cs h.1)
     where

@@ -53,13 +53,27 @@ before_none (c ∷ cs) q h = behind_lost c cs q h.0
 inside_none : (c : Cut) (cs : List Cut) (q : ℕ) → q < end_of c → (gained (c ∷ cs) q ≡ 0) × (lost (c ∷ cs) q ≡ 0)
 inside_none c cs q h = let no : leb (end_of c) q ≡ false = lt-leb (end_of c) q h in (rw (no, gained) refl, rw (no, lost) refl)
 
-pub cuts_grow : (fill : Fill) → Grows fill → (at : ℕ) (ps : List Piece) → Ends ps → old_length ps < 2 ^ 32 → (more : List Cut) → Later (at + old_length ps) more → (q : ℕ) → q < at + old_length ps
+-- slots that a chunk of padding can fill
+abbrev pub SlotsLow : List Piece → Type 0
+SlotsLow [] = Unit {0}
+SlotsLow (copied c ∷ ps) = SlotsLow ps
+SlotsLow (replaced lead slot now last ∷ ps) = (length slot < 2 ^ 32) × SlotsLow ps
+
+low_slots : (ps : List Piece) → old_length ps < 2 ^ 32 → SlotsLow ps
+low_slots [] lt = tt
+low_slots (copied c ∷ ps) lt = low_slots ps (omega (arith, lt, length-append (spell c) (Rattle.std.specs.List.flat_map old_bytes ps)))
+low_slots (replaced lead slot now last ∷ ps) lt =
+    let len = length-append (spell_all lead ++ slot) (Rattle.std.specs.List.flat_map old_bytes ps) in
+    let two = length-append (spell_all lead) slot in
+    (omega (arith, lt, len, two), low_slots ps (omega (arith, lt, len)))
+
+pub cuts_grow : (fill : Fill) → Grows fill → (at : ℕ) (ps : List Piece) → Ends ps → SlotsLow ps → (more : List Cut) → Later (at + old_length ps) more → (q : ℕ) → q < at + old_length ps
     → lost (cuts fill at ps ++ more) q ≤ gained (cuts fill at ps ++ more) q
 cuts_grow fill g at [] h small more later q lt = let z = before_none more q (later q lt) in omega (arith, z.0, z.1)
 cuts_grow fill g at (copied c ∷ ps) h small more later q lt =
     let len = length-append (spell c) (Rattle.std.specs.List.flat_map old_bytes ps) in
     let e : (at + length (spell c)) + old_length ps ≡ at + old_length (copied c ∷ ps) = omega (arith, len) in
-    cuts_grow fill g (at + length (spell c)) ps h (omega (arith, len, small)) more (rw e later) q (omega (arith, e, lt))
+    cuts_grow fill g (at + length (spell c)) ps h small more (rw e later) q (omega (arith, e, lt))
 cuts_grow fill g at (replaced lead slot now last ∷ ps) h small more later q lt =
     let next = at + length (spell_all lead ++ slot) in
     let cut = cut_of fill at lead slot now last in
@@ -67,7 +81,7 @@ cuts_grow fill g at (replaced lead slot now last ∷ ps) h small more later q lt
     let len = length-append (spell_all lead ++ slot) (Rattle.std.specs.List.flat_map old_bytes ps) in
     let two = length-append (spell_all lead) slot in
     let e : next + old_length ps ≡ at + old_length (replaced lead slot now last ∷ ps) = omega (arith, len) in
-    go cut rest (cases_lt q (end_of cut)) (λ past. cuts_grow fill g next ps h.1 (omega (arith, len, small)) more (rw e later) q (omega (arith, e, lt))) (λ past. grown last refl h.0 (omega (arith, len, two, small)) (omega (arith, past, two)))
+    go cut rest (cases_lt q (end_of cut)) (λ past. cuts_grow fill g next ps h.1 small.1 more (rw e later) q (omega (arith, e, lt))) (λ past. grown last refl h.0 small.0 (omega (arith, past, two)))
   where
     go : (c : Cut) (rest : List Cut) → (q < end_of c) ⊎ (end_of c ≤ q) → (end_of c ≤ q → lost rest q ≤ gained rest q) → (end_of c ≤ q → c.len ≤ length c.bytes) → lost (c ∷ rest) q ≤ gained (c ∷ rest) q
     go c rest (inl x) again size = let z = inside_none c rest q x in omega (arith, z.0, z.1)
@@ -125,6 +139,6 @@ pub edit_grows : (a : Avi) (e : Items) (q : ℕ) → old_length (units shut (new
 edit_grows a e q small lt =
     omega (
       arith,
-      cuts_grow (riff_fill (ends_file a)) (riff_grows (ends_file a)) 12 (units shut (new_cells a e)) (units_end shut (new_cells a e)) small
+      cuts_grow (riff_fill (ends_file a)) (riff_grows (ends_file a)) 12 (units shut (new_cells a e)) (units_end shut (new_cells a e)) (low_slots (units shut (new_cells a e)) small)
           (pad_cut (8 + length (inner a.children a.left)) a.pad (pad_after a e)) (pad_later a e) q lt,
     )

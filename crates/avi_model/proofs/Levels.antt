@@ -194,7 +194,7 @@ module _ (a : Avi) (g : Ended a) where
   not_type w x y h other e = other (subst (λ (z : Stood). is_type w z.chunk ≡ true) (sym e) h)
 
   -- a range of the first form that isn't in a list of streams
-  past_hdrl : (x : Stood) → Among x (hdrls a) → (p n : ℕ) → Lies a p n → (InStream a p n ⊎ ((p + n ≤ x.at) ⊎ (x.at + 8 + length x.chunk.body + 8 ≤ p)))
+  pub past_hdrl : (x : Stood) → Among x (hdrls a) → (p n : ℕ) → Lies a p n → (InStream a p n ⊎ ((p + n ≤ x.at) ⊎ (x.at + 8 + length x.chunk.body + 8 ≤ p)))
   unfolding movi_top old_top
   past_hdrl x i p n (in_stream s) = inl s
   past_hdrl x i p n (in_movi s) = let h = hdrl_whole x i in inr (beside x h.0 p n (movi_top p n s) (not_type (codes "hdrl") x s.movi h.1 (λ t. type_one (codes "movi") (codes "hdrl") s.movi refl s.movi_is t)))

@@ -4,15 +4,14 @@ use Rattle.std.specs.Prelude.{◌⊎◌, ◌&&◌, ◌||◌, not, codes}
 use Rattle.std.specs.List.{flat_map, AllByRecursion}
 use Rattle.std.proofs.lemmas.Bool.{and_parts, ltb-false, ltb-true, leb-true, leb-false, eqb-false}
 use Rattle.std.proofs.lemmas.List.{length-append, length-take, length-drop}
-use Rattle.container_model.specs.Chunk.{spell, spell_all}
-use Rattle.container_model.specs.Splice.{shift, Ascend, Outside}
+use Rattle.container_model.specs.Chunk.{spell}
 use Rattle.container_model.specs.Stood.{Stood, only}
 use Rattle.container_model.specs.Written.{slice, Write, written}
 use Rattle.container_model.proofs.Codec.{IsBytes}
 use Rattle.container_model.proofs.Written.{length-written, slice_clear, length-slice}
 use Rattle.container_model.proofs.Stay.{Orders, Stays, stays_part, rigid_part}
 use Rattle.part_tree.specs.declared.names.Span.{Span}
-use Rattle.avi_model.specs.Avi.{Avi, avi_of, inner, has_id, kids, top, others_at, strls, stream_indexes, old_indexes, is_movi, essence, body_span, first_span, first_movi}
+use Rattle.avi_model.specs.Avi.{Avi, avi_of, inner, spell_avi, has_id, kids, top, others_at, strls, stream_indexes, old_indexes, is_movi, essence, body_span, first_span, first_movi}
 use Rattle.container_model.specs.Tables.{Table, table_of, named, size_at}
 use Rattle.opendml_index.specs.Index.{move, is_super, width, entries, super_place, super_places, index_base, entry_offset, entry_length, entry_second, has_second, first_counted}
 use Rattle.avi_model.specs.Index.{writes, named_by, named_in, streams, indexes, base, olds, misses}
@@ -20,23 +19,19 @@ use Rattle.avi_index.specs.Rows.{Base, from_start, from_movi, old_rows, row_offs
 use Rattle.part_tree.specs.Ranges.{within, in_one}
 use Rattle.opendml_index.specs.Kinds.{SoundIndex, is_index_kind, is_standard_kind, second_lies}
 use Rattle.avi_model.specs.Support.{movis, movi_spans, SoundPlace, SoundEntry, SoundEntries, SoundRow, SoundRows, Supported}
-use Rattle.avi_model.specs.NewFile.{Items, new_cells, new_children, edit_cuts, laid_file}
 use Rattle.avi_model.specs.Large.{Check, offset_checks, second_checks, entry_checks, standard_checks, index_checks, row_checks, old_checks, limit32}
-use Rattle.avi_model.proofs.Read.{renewed_avi}
 use Rattle.avi_model.proofs.Numbers.{Whole}
 use Rattle.avi_model.proofs.Walk.{IsRiffHead}
-use Rattle.avi_model.proofs.Law.{TableFacts, OldFine, order}
-use Rattle.avi_model.proofs.Pieces.{Rests, SuperFits, SecondFits, CountedFits, EntryFits, StandardFits, IndexFits, RowFits, BytesStay, RowStays, ClearStays}
+use Rattle.avi_model.proofs.Laid.{IsLaid}
+use Rattle.avi_model.proofs.Law.{TableFacts, OldFine}
+use Rattle.avi_model.proofs.Pieces.{Rests, SuperFits, SecondFits, EntryFits, StandardFits, IndexFits, RowFits, BytesStay, RowStays, ClearStays}
 use Rattle.avi_model.proofs.Follow.{StreamFine, NamedFine, NamesFine, NamesFine_by}
-use Rattle.avi_model.proofs.Grows.{edit_grows}
-use Rattle.avi_model.proofs.Tables.{streams_carried}
-use Rattle.avi_model.proofs.Among.{Among, all_among, among_all, among_only, among_first, among_append, among_front, among_back, among_flat, flat_among, among_map, map_among, stood_inside}
+use Rattle.avi_model.proofs.Among.{Among, all_among, among_all, among_only, among_first, among_append, among_front, among_back, among_flat, flat_among, among_map, map_among}
 use Rattle.avi_model.proofs.Lies.{kids_heads, body_end, list_long}
 use Rattle.avi_model.proofs.Levels.{Ended, top_heads, top_range}
 use Rattle.avi_model.proofs.Sound.{ended, holder_of, stream_whole, named_sound, place_whole, named_from, named_place, index_sound, clear_of, clear_head, owns_index, owns_old}
-use Rattle.avi_model.proofs.Frames.{opened, same_cuts}
-use Rattle.avi_model.proofs.Essence.{facts, essence_stays, past}
-use Rattle.avi_model.proofs.Fit.{Passes, Fits}
+use Rattle.avi_model.proofs.Essence.{essence_stays}
+use Rattle.avi_model.proofs.Fit.{Passes, FitsBy}
 use Rattle.opendml_index.proofs.Known.{super_kind, standard_kind, super_index, standard_index}
 use Rattle.avi_model.proofs.Entries.{entry_long, place_named, first_is, row_length_is}
 
@@ -46,36 +41,30 @@ stays_end o n f Ok p len s some =
     let whole : length (slice n (f p) len) ≡ len = ap length s.same ∙ length-slice o p len s.lies in
     omega (arith, whole, length-take len (drop (f p) n), length-drop (f p) n)
 
-module _ (o : List ℕ) (bytes : IsBytes o) (s : Supported o) (e : Items) (small : length (inner (new_children (renewed_avi (writes (move (shift (edit_cuts (avi_of o) e))) o) (avi_of o)) e) (avi_of o).left) < 2 ^ 32) where
+module _ (o : List ℕ) (bytes : IsBytes o) (s : Supported o) (f : ℕ → ℕ) (Free : ℕ → Type 0) (after : Avi) (facts : IsLaid o f Free after) where
   abbrev a : Avi
   a = avi_of o
 
-  abbrev f : ℕ → ℕ
-  f = shift (edit_cuts (avi_of o) e)
-
-  abbrev Free : ℕ → Type 0
-  Free p = Outside (edit_cuts (avi_of o) e) p
-
   abbrev ws : List Write
-  ws = writes (move (shift (edit_cuts (avi_of o) e))) o
+  ws = writes (move f) o
 
   abbrev n : List ℕ
-  n = laid_file o e
+  n = spell_avi after
 
   g : Ended (avi_of o)
   g = ended o bytes s
 
-  abbrev pub ord : Orders (shift (edit_cuts (avi_of o) e)) (λ p. Outside (edit_cuts (avi_of o) e) p)
-  ord = order o e (facts o bytes s e small).ascend
+  abbrev pub ord : Orders f Free
+  ord = facts.order
 
   -- ---- a range in the essence
 
   abbrev pub MovesIn : ℕ → ℕ → Type 0
-  MovesIn p len = Stays (written (writes (move (shift (edit_cuts (avi_of o) e))) o) 0 o) (laid_file o e) (shift (edit_cuts (avi_of o) e)) (λ p. Outside (edit_cuts (avi_of o) e) p) p len
+  MovesIn p len = Stays (written (writes (move f) o) 0 o) (spell_avi after) f Free p len
 
   pub moves_in : (m : Stood) → Among m (essence (avi_of o)) → (p len : ℕ) → m.at + 8 ≤ p → p + len ≤ m.at + 8 + length m.chunk.body → 0 < len → MovesIn p len
   moves_in m i p len low high some =
-      let whole = essence_stays o bytes s e small m i in
+      let whole = essence_stays o bytes s f Free after facts m i in
       let back : m.at + (p - m.at) ≡ p = omega arith in
       subst (λ (q : ℕ). MovesIn q len) back (stays_part (written ws 0 o) n f Free m.at (8 + length m.chunk.body) (p - m.at) len (omega arith) (omega arith) whole)
 
@@ -87,19 +76,15 @@ module _ (o : List ℕ) (bytes : IsBytes o) (s : Supported o) (e : Items) (small
       go (inl j) =
           let z = among_only is_movi (top a) m j in
           let r = top_range a g m z.0 in
-          let size = Rattle.avi_model.proofs.Past.children_length a e in
-          let short = g.readable.small in
-          let me = body_end m (among_all IsRiffHead (top a) (top_heads a g) m z.0) in
-          let inside = stood_inside 12 a.children m z.0 in
-          omega (arith, edit_grows a e p (omega (arith, size, short, length-append (spell_all a.children) a.left)) (omega (arith, size, inside.1, me)), r.0)
+          omega (arith, facts.grows m j p low high, r.0)
       go (inr j) =
           let y = among_flat (λ x. only is_movi (kids x)) (others_at a) m j in
           let z = among_only is_movi (kids y.from) m y.in_it in
           let w = Rattle.avi_model.proofs.Levels.further_whole a g y.from y.from_among in
           let k = Rattle.avi_model.proofs.Lies.kids_inside y.from w.bytes w.long m z.0 in
           let r = Rattle.avi_model.proofs.Levels.others_range a g y.from y.from_among in
-          let q = past o bytes s e small p (omega (arith, k.0, r.0)) in
-          omega (arith, q.1, k.0, r.0, length-append (inner (new_children (renewed_avi ws a) e) a.left) (Rattle.avi_model.specs.NewFile.pad_after (renewed_avi ws a) e))
+          let q = facts.past p (omega (arith, k.0, r.0)) in
+          omega (arith, q.1, k.0, r.0, length-append (inner after.children after.left) after.pad)
 
   -- ---- a place that is named
 
@@ -120,9 +105,8 @@ module _ (o : List ℕ) (bytes : IsBytes o) (s : Supported o) (e : Items) (small
         whole = place_whole o bytes s p q;
       }
 
-  module _ (fit : Fits o e) where
+  module _ (fit : FitsBy after f o (spell_avi after)) where
     file_length : length n < 2 ^ 63
-    unfolding laid_file
     file_length = omega (arith, fit.file_short)
 
     -- ---- super indexes
@@ -181,7 +165,7 @@ module _ (o : List ℕ) (bytes : IsBytes o) (s : Supported o) (e : Items) (small
           owns = owns_index o bytes s (move f) (table_of x) (among_front (streams o) (flat_map (named_by o) (streams o)) (table_of x) k);
         }
 
-    pub old_fine : (x : Stood) → Among x (old_indexes a) → OldFine o e x
+    pub old_fine : (x : Stood) → Among x (old_indexes a) → OldFine o f Free after facts x
     old_fine x i =
         let j = among_only (has_id (codes "idx1")) (top a) x (among_first (only (has_id (codes "idx1")) (top a)) x i) in
         record { head = among_all IsRiffHead (top a) (top_heads a g) x j.0; owns = owns_old o bytes s (move f) x i }
@@ -189,7 +173,7 @@ module _ (o : List ℕ) (bytes : IsBytes o) (s : Supported o) (e : Items) (small
     -- ---- the chunk of each index moves as one
 
     streams_move : AllByRecursion (Rattle.container_model.proofs.Copied.Moves_as_one f Free) (stream_indexes a)
-    streams_move = subst (λ (x : List Rattle.container_model.specs.Splice.Cut). AllByRecursion (Rattle.container_model.proofs.Copied.Moves_as_one (shift x) (λ p. Outside x p)) (stream_indexes a)) (same_cuts o bytes s (move f) e) (streams_carried a e ws (opened o bytes s (move f) e)).1
+    streams_move = facts.streams.1
 
     pub index_rests : (t : Table) → Among t (indexes o) → Rests o n f Free ord t
     index_rests t i = go (among_append (streams o) (flat_map (named_by o) (streams o)) t i)
@@ -363,13 +347,7 @@ module _ (o : List ℕ) (bytes : IsBytes o) (s : Supported o) (e : Items) (small
     movi_long = list_long (codes "movi") movi_holder refl movi_top.1
 
     movi_grows : (first_movi a).at ≤ f (first_movi a).at
-    movi_grows =
-        let size = Rattle.avi_model.proofs.Past.children_length a e in
-        let short = g.readable.small in
-        let me = body_end movi_holder (among_all IsRiffHead (top a) (top_heads a g) movi_holder movi_top.0) in
-        let inside = stood_inside 12 a.children movi_holder movi_top.0 in
-        let q = edit_grows a e (movi_holder.at + 8) (omega (arith, size, short, length-append (spell_all a.children) a.left)) (omega (arith, size, inside.1, me, movi_long)) in
-        subst (λ (x : Span). x.at ≤ f x.at) (sym first_span_is) q
+    movi_grows = subst (λ (x : Span). x.at ≤ f x.at) (sym first_span_is) (facts.grows movi_holder movi_in (movi_holder.at + 8) (omega arith) (omega (arith, movi_long)))
 
     slice_none : (x : List ℕ) (q : ℕ) → slice x q 0 ≡ []
     slice_none x q = refl
@@ -432,12 +410,12 @@ module _ (o : List ℕ) (bytes : IsBytes o) (s : Supported o) (e : Items) (small
             all_among (RowStays o n f Free ord from_start (indexes o)) (old_rows t.body)
             (λ r j c. (row_moves r c (among_all (λ r. eqb (row_length r) 0 ≡ false → SoundRow (first_movi a) (indexes o) r) (old_rows t.body) h r j c)).bytes_stay)
 
-    pub table_facts : TableFacts o e (facts o bytes s e small)
+    pub table_facts : TableFacts o f Free after facts
     unfolding movi_holder
     table_facts = record {
       streams_fine = all_among (StreamFine o n f Free ord ws) (stream_indexes a) stream_fine;
       names_fine = all_among (NamesFine o n f Free ord ws) (streams o) names_fine;
-      olds_fine = all_among (OldFine o e) (old_indexes a) old_fine;
+      olds_fine = all_among (OldFine o f Free after facts) (old_indexes a) old_fine;
       movi_first = first_movi_is.0;
       movi_more = first_movi_is.1;
       movi_is = first_movi_is.2;

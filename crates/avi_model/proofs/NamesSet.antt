@@ -1,5 +1,5 @@
 -- An edit of the names of a supported file's streams.
-use Rattle.std.proofs.Common.{◌≡◌, ℕ, ◌+◌, ◌^◌, ◌<◌, ◌≤◌, Bool, true, false, cond, List, [], ◌∷◌, ◌++◌, length, map, refl, sym, ap, subst, ◌∙◌, arith, inl, inr}
+use Rattle.std.proofs.Common.{◌≡◌, ℕ, ◌+◌, ◌^◌, ◌<◌, ◌≤◌, Bool, true, false, cond, List, [], ◌∷◌, ◌++◌, length, map, drop, refl, sym, ap, subst, ◌∙◌, arith, inl, inr}
 use Rattle.std.specs.Prelude.{◌&&◌, filter, not, codes}
 use Rattle.std.specs.List.{flat_map}
 use Rattle.std.proofs.lemmas.List.{length-append, append-nil}
@@ -11,16 +11,19 @@ use Rattle.container_model.proofs.Plain.{ArePlain, plain_again}
 use Rattle.container_model.proofs.Stood.{first_map}
 use Rattle.container_model.proofs.Copied.{moved_to}
 use Rattle.container_model.specs.Splice.{shift}
-use Rattle.carrier_model.specs.Info.{is_type, list_run}
-use Rattle.avi_model.specs.Avi.{Avi, avi_of, has_id, kids, top, hdrls, strls, is_movi}
+use Rattle.carrier_model.specs.Info.{list_run}
+use Rattle.avi_model.specs.Avi.{avi_of, has_id, kids, top, is_movi}
 use Rattle.avi_model.specs.Heads.{Head, head_of, head_with, nth_names}
 use Rattle.avi_model.specs.Named.{Names, is_strl, is_hdrl, ends_file, hdrl_named, children_named, named, name_cuts}
 use Rattle.avi_model.specs.NamesSet.{NamesSet}
 use Rattle.avi_model.specs.Support.{Supported}
 use Rattle.avi_model.proofs.Among.{Among}
-use Rattle.avi_model.proofs.Children.{Opens, FirstOpens, AreChildren, behind_one, kids_of, children_plain, children_pads, children_seen, children_block, children_follow, streams_follow, moves_with}
+use Rattle.avi_model.proofs.Children.{HdrlSmall, Opens, FirstOpens, AreChildren, behind_one, kids_of, children_plain, children_pads, children_seen, children_block, children_follow, all_small, streams_follow, moves_with}
 use Rattle.avi_model.proofs.Levels.{Ended, hdrl_whole, strl_whole}
-use Rattle.avi_model.proofs.Lies.{Whole}
+use Rattle.container_model.specs.Sizes.{plain, riff_front}
+use Rattle.container_model.proofs.Codec.{IsBytes-drop, chunks_pads}
+use Rattle.container_model.proofs.Fronts.{riff_gives_back}
+use Rattle.avi_model.proofs.Lies.{Whole, list_joined}
 use Rattle.avi_model.proofs.NamesSpliced.{children_spliced}
 use Rattle.avi_model.proofs.Respelled.{IsList, list_plain, list_type, list_length}
 use Rattle.avi_model.proofs.Sound.{ended}
@@ -30,7 +33,15 @@ use Rattle.avi_model.proofs.Types.{type_is}
 -- ---- what is opened in a supported file
 
 list_of : (x : Stood) (c : Chunk) → x.chunk ≡ bare c → Rattle.container_model.proofs.Plain.IsPlain c → Whole x → IsList c
-list_of x c e p w = record { form_is = p.form_is; bytes = subst (λ (d : Chunk). IsBytes d.body) e w.bytes; long = subst (λ (d : Chunk). 4 ≤ length d.body) e w.long; all_read = subst (λ (d : Chunk). (list_run d).stop ≡ Rattle.container_model.specs.Chunk.ends) e w.all_read }
+list_of x c e p w =
+    let bytes : IsBytes c.body = subst (λ (d : Chunk). IsBytes d.body) e w.bytes in
+    record {
+      form_is = p.form_is;
+      long = subst (λ (d : Chunk). 4 ≤ length d.body) e w.long;
+      all_read = subst (λ (d : Chunk). (list_run d).stop ≡ Rattle.container_model.specs.Chunk.ends) e w.all_read;
+      pads = chunks_pads riff_front riff_gives_back plain (drop 4 c.body) (IsBytes-drop 4 c.body bytes);
+      spelled = list_joined (record { at = 0; chunk = c }) bytes;
+    }
 
 kids_are : (at : ℕ) (cs : List Chunk) → ArePlain cs → ((y : Stood) → Among y (only is_strl (stood at cs)) → Whole y) → AreKids cs
 kids_are at [] p h = tt
@@ -80,57 +91,56 @@ module _ (e : Names) where
   strls_of xs = only is_strl (flat_map kids (first_of (only is_hdrl xs)))
 
   -- how small the chunks of hdrl are
-  kids_small : (ends_too : Bool) (c : Chunk) (cs : List Chunk) → IsList c → length (spell_all (hdrl_named e ends_too c ∷ cs)) < 2 ^ 32 → length (spell_all (kids_of e ends_too c)) < 2 ^ 32
-  kids_small ends_too c cs is lt = omega (arith, lt, length-append (spell (hdrl_named e ends_too c)) (spell_all cs), spell_long (hdrl_named e ends_too c), list_length c (kids_of e ends_too c) is)
+  pub kids_small : (ends_too : Bool) (c : Chunk) → IsList c → length (hdrl_named e ends_too c).body < 2 ^ 32 → length (spell_all (kids_of e ends_too c)) < 2 ^ 32
+  kids_small ends_too c is lt = omega (arith, lt, list_length c (kids_of e ends_too c) is)
 
-  children_names : (ends_too : Bool) (at to : ℕ) (cs : List Chunk) → AreChildren cs → length (spell_all (children_named e ends_too cs)) < 2 ^ 32 → (m : ℕ) → m < length (strls_of (stood at cs))
+  pub children_names : (ends_too : Bool) (at to : ℕ) (cs : List Chunk) → AreChildren cs → HdrlSmall e ends_too cs → (m : ℕ) → m < length (strls_of (stood at cs))
       → nth_names m (strls_of (stood to (children_named e ends_too cs))) ≡ after e m (nth_names m (strls_of (stood at cs)))
   children_names ends_too at to [] h lt m less = absurd (omega arith)
-  children_names ends_too at to (c ∷ cs) h lt m less = go (is_hdrl c) refl lt less (λ i l k. children_names ends_too (at + length (spell c)) (to + length (spell c)) cs (behind_one c cs h i) l m k)
+  children_names ends_too at to (c ∷ cs) h lt m less = go (is_hdrl c) refl less (λ i k. children_names ends_too (at + length (spell c)) (to + length (spell c)) cs (behind_one c cs h i) (lt.1 i) m k)
     where
-      go : (t : Bool) → is_hdrl c ≡ t → length (spell_all (cond t (hdrl_named e (ends_too && is_nil cs) c ∷ cs) (c ∷ children_named e ends_too cs))) < 2 ^ 32
-          → m < length (only is_strl (flat_map kids (first_of (cond t (record { at = at; chunk = bare c } ∷ only is_hdrl (stood (at + length (spell c)) cs)) (only is_hdrl (stood (at + length (spell c)) cs))))))
-          → (is_hdrl c ≡ false → length (spell_all (children_named e ends_too cs)) < 2 ^ 32 → m < length (strls_of (stood (at + length (spell c)) cs)) → nth_names m (strls_of (stood (to + length (spell c)) (children_named e ends_too cs))) ≡ after e m (nth_names m (strls_of (stood (at + length (spell c)) cs))))
+      go : (t : Bool) → is_hdrl c ≡ t → m < length (only is_strl (flat_map kids (first_of (cond t (record { at = at; chunk = bare c } ∷ only is_hdrl (stood (at + length (spell c)) cs)) (only is_hdrl (stood (at + length (spell c)) cs))))))
+          → (is_hdrl c ≡ false → m < length (strls_of (stood (at + length (spell c)) cs)) → nth_names m (strls_of (stood (to + length (spell c)) (children_named e ends_too cs))) ≡ after e m (nth_names m (strls_of (stood (at + length (spell c)) cs))))
           → nth_names m (strls_of (stood to (cond t (hdrl_named e (ends_too && is_nil cs) c ∷ cs) (c ∷ children_named e ends_too cs))))
           ≡ after e m (nth_names m (only is_strl (flat_map kids (first_of (cond t (record { at = at; chunk = bare c } ∷ only is_hdrl (stood (at + length (spell c)) cs)) (only is_hdrl (stood (at + length (spell c)) cs)))))))
-      go true i lt less again =
+      go true i less again =
           let o = h.1.0 i in
           let new = hdrl_named e (ends_too && is_nil cs) c in
           let ks = (list_run c).chunks in
           let x : Stood = record { at = at; chunk = bare c } in
           let y : Stood = record { at = to; chunk = bare new } in
           let typed : is_hdrl new ≡ true = list_type (codes "hdrl") c (kids_of e (ends_too && is_nil cs) c) o.0 ∙ i in
-          let small = kids_small (ends_too && is_nil cs) c cs o.0 lt in
+          let small = kids_small (ends_too && is_nil cs) c o.0 (lt.0 i) in
           let one : strls_of (stood to (new ∷ cs)) ≡ only is_strl (kids y) = ap (λ (b : Bool). only is_strl (flat_map kids (first_of (cond b (y ∷ only is_hdrl (stood (to + length (spell new)) cs)) (only is_hdrl (stood (to + length (spell new)) cs)))))) typed ∙ ap (only is_strl) (append-nil (kids y)) in
           let read : only is_strl (kids y) ≡ only is_strl (stood (to + 12) (kids_of e (ends_too && is_nil cs) c)) = ap (λ (r : Run). only is_strl (stood (to + 12) r.chunks)) (hdrl_run e (ends_too && is_nil cs) c o.0 o.1 small) in
           let old : only is_strl (kids x ++ []) ≡ only is_strl (kids x) = ap (only is_strl) (append-nil (kids x)) in
           let z : 0 + m ≡ m = omega arith in
           ap (nth_names m) (one ∙ read) ∙ kids_names e ((ends_too && is_nil cs) && Rattle.avi_model.specs.Named.ends_list c) 0 (at + 12) (to + 12) ks o.1 small m (omega (arith, less, ap length old))
           ∙ ap (λ (k : ℕ). after e k (nth_names m (only is_strl (kids x)))) z ∙ ap (λ (xs : List Stood). after e m (nth_names m xs)) (sym old)
-      go false i lt less again =
+      go false i less again =
           let more = children_named e ends_too cs in
           ap (λ (b : Bool). nth_names m (only is_strl (flat_map kids (first_of (cond b (record { at = to; chunk = bare c } ∷ only is_hdrl (stood (to + length (spell c)) more)) (only is_hdrl (stood (to + length (spell c)) more))))))) i
-          ∙ again i (omega (arith, lt, length-append (spell c) (spell_all more))) less
+          ∙ again i less
 
-  children_heads : (ends_too : Bool) (at to : ℕ) (cs : List Chunk) → AreChildren cs → length (spell_all (children_named e ends_too cs)) < 2 ^ 32
+  pub children_heads : (ends_too : Bool) (at to : ℕ) (cs : List Chunk) → AreChildren cs → HdrlSmall e ends_too cs
       → map (λ (x : Stood). head_of x.chunk) (first_of (only is_hdrl (stood to (children_named e ends_too cs)))) ≡ map (λ (x : Stood). head_with e (head_of x.chunk)) (first_of (only is_hdrl (stood at cs)))
   children_heads ends_too at to [] h lt = refl
-  children_heads ends_too at to (c ∷ cs) h lt = go (is_hdrl c) refl lt (λ i l. children_heads ends_too (at + length (spell c)) (to + length (spell c)) cs (behind_one c cs h i) l)
+  children_heads ends_too at to (c ∷ cs) h lt = go (is_hdrl c) refl (λ i. children_heads ends_too (at + length (spell c)) (to + length (spell c)) cs (behind_one c cs h i) (lt.1 i))
     where
-      go : (t : Bool) → is_hdrl c ≡ t → length (spell_all (cond t (hdrl_named e (ends_too && is_nil cs) c ∷ cs) (c ∷ children_named e ends_too cs))) < 2 ^ 32
-          → (is_hdrl c ≡ false → length (spell_all (children_named e ends_too cs)) < 2 ^ 32 → map (λ (x : Stood). head_of x.chunk) (first_of (only is_hdrl (stood (to + length (spell c)) (children_named e ends_too cs)))) ≡ map (λ (x : Stood). head_with e (head_of x.chunk)) (first_of (only is_hdrl (stood (at + length (spell c)) cs))))
+      go : (t : Bool) → is_hdrl c ≡ t
+          → (is_hdrl c ≡ false → map (λ (x : Stood). head_of x.chunk) (first_of (only is_hdrl (stood (to + length (spell c)) (children_named e ends_too cs)))) ≡ map (λ (x : Stood). head_with e (head_of x.chunk)) (first_of (only is_hdrl (stood (at + length (spell c)) cs))))
           → map (λ (x : Stood). head_of x.chunk) (first_of (only is_hdrl (stood to (cond t (hdrl_named e (ends_too && is_nil cs) c ∷ cs) (c ∷ children_named e ends_too cs)))))
           ≡ map (λ (x : Stood). head_with e (head_of x.chunk)) (first_of (cond t (record { at = at; chunk = bare c } ∷ only is_hdrl (stood (at + length (spell c)) cs)) (only is_hdrl (stood (at + length (spell c)) cs))))
-      go true i lt again =
+      go true i again =
           let o = h.1.0 i in
           let new = hdrl_named e (ends_too && is_nil cs) c in
           let typed : is_hdrl new ≡ true = list_type (codes "hdrl") c (kids_of e (ends_too && is_nil cs) c) o.0 ∙ i in
           ap (λ (b : Bool). map (λ (x : Stood). head_of x.chunk) (first_of (cond b (record { at = to; chunk = bare new } ∷ only is_hdrl (stood (to + length (spell new)) cs)) (only is_hdrl (stood (to + length (spell new)) cs))))) typed
-          ∙ ap (λ (x : Head). x ∷ []) (head_placed e (ends_too && is_nil cs) c o.0 o.1 (kids_small (ends_too && is_nil cs) c cs o.0 lt))
-      go false i lt again =
+          ∙ ap (λ (x : Head). x ∷ []) (head_placed e (ends_too && is_nil cs) c o.0 o.1 (kids_small (ends_too && is_nil cs) c o.0 (lt.0 i)))
+      go false i again =
           let more = children_named e ends_too cs in
           ap (λ (b : Bool). map (λ (x : Stood). head_of x.chunk) (first_of (cond b (record { at = to; chunk = bare c } ∷ only is_hdrl (stood (to + length (spell c)) more)) (only is_hdrl (stood (to + length (spell c)) more))))) i
-          ∙ again i (omega (arith, lt, length-append (spell c) (spell_all more)))
+          ∙ again i
 
 -- ---- the others
 
@@ -154,13 +164,13 @@ names_are_set b e bytes s lt =
     let hides = λ (p : Chunk → Bool). (c : Chunk) → is_hdrl c ≡ true → p (bare c) ≡ false in
     let no_old : hides (has_id (codes "idx1")) = λ c i. rw (type_is (codes "hdrl") c i).id_is refl in
     let no_movi : hides is_movi = λ c i. let t = type_is (codes "hdrl") c i in rw (t.id_is, t.type_is) (Rattle.avi_model.proofs.Types.and_none (Rattle.carrier_model.specs.Info.own_size c.form)) in
-    let streams = moves_with e cs 12 end (Rattle.avi_model.specs.Avi.stream_indexes a) (Rattle.avi_model.specs.Avi.stream_indexes (named a e)) (streams_follow e t 12 12 a.children h lt) in
+    let streams = moves_with e cs 12 end (Rattle.avi_model.specs.Avi.stream_indexes a) (Rattle.avi_model.specs.Avi.stream_indexes (named a e)) (streams_follow e t 12 12 a.children h (all_small e t a.children lt)) in
     let olds = moves_with e cs 12 end (only (has_id (codes "idx1")) (top a)) (only (has_id (codes "idx1")) (top (named a e))) (children_follow e (has_id (codes "idx1")) no_old t 12 12 a.children h) in
     let movis = moves_with e cs 12 end (only is_movi (top a)) (only is_movi (top (named a e))) (children_follow e is_movi no_movi t 12 12 a.children h) in
     record {
       again = plain_again (children_named e t a.children) a.left (children_plain e t a.children h) (children_pads e t a.children a.left h g.readable.pads) g.readable.few_left lt;
-      names = λ n less. children_names e t 12 12 a.children h lt n less;
-      heads = children_heads e t 12 12 a.children h lt;
+      names = λ n less. children_names e t 12 12 a.children h (all_small e t a.children lt) n less;
+      heads = children_heads e t 12 12 a.children h (all_small e t a.children lt);
       others = other_than is_hdrl (children_named e t a.children) ∙ children_seen e (λ c. cond (not (is_hdrl c)) (c ∷ []) []) (λ u c o i. hidden u c o i) t a.children h ∙ sym (other_than is_hdrl a.children);
       spliced = children_spliced e t 12 a.children h;
       ascend = (children_block e t 12 12 a.children h).ascend;

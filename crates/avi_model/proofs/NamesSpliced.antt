@@ -19,7 +19,6 @@ use Rattle.carrier_model.specs.Names.{name_cells}
 use Rattle.carrier_model.specs.RiffForm.{pad_cut}
 use Rattle.avi_model.specs.Named.{Names, is_named, names_after, new_names, cell_of, list_with, ends_list, is_strl, is_hdrl, strl_pieces, strl_fill, strl_named, kid_named, kids_named, hdrl_named, children_named, Site, sites_from, hdrl_from, strl_cuts, hdrl_cuts}
 use Rattle.avi_model.proofs.Children.{AreChildren, behind_one, kids_of, cuts_from as cuts_among}
-use Rattle.avi_model.proofs.Lies.{list_joined}
 use Rattle.avi_model.proofs.Respelled.{IsList, respelled_form, respelled_id, respelled_body, made_names, laid_chunks}
 use Rattle.avi_model.proofs.Streams.{IsKid, AreKids}
 use Rattle.avi_model.proofs.StreamsGo.{was_is}
@@ -86,7 +85,7 @@ parts_of id size word kids left pad body e = ap (λ (b : List ℕ). (id ++ size)
 
 module _ (c : Chunk) (cs : List Chunk) (plain : IsPlain c) (is : IsList c) where
   body_is : c.body ≡ take 4 c.body ++ (spell_all (list_run c).chunks ++ (list_run c).left)
-  body_is = sym (take-append-drop 4 c.body) ∙ ap (λ (x : List ℕ). take 4 c.body ++ x) (sym (list_joined (record { at = 0; chunk = c }) is.bytes))
+  body_is = sym (take-append-drop 4 c.body) ∙ ap (λ (x : List ℕ). take 4 c.body ++ x) (sym is.spelled)
 
   old_is : spell c ≡ c.id ++ (to_le_bytes w32 (length c.body) ++ (take 4 c.body ++ (spell_all (list_run c).chunks ++ ((list_run c).left ++ c.pad))))
   old_is = head_is c plain ∙ parts_of c.id (to_le_bytes w32 (length c.body)) (take 4 c.body) (spell_all (list_run c).chunks) (list_run c).left c.pad c.body body_is

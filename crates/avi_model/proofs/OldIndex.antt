@@ -1,19 +1,17 @@
 -- The idx1 of the new file: its base stands where the old one's does, and its entries are sound.
-use Rattle.std.proofs.Common.{◌≡◌, ℕ, ◌+◌, ◌-◌, ◌%◌, ◌^◌, ◌<◌, ◌≤◌, Bool, true, false, cond, eqb, ltb, leb, List, [], ◌∷◌, length, map, refl, sym, ap, subst, ◌∙◌, arith, inl, inr}
+use Rattle.std.proofs.Common.{◌≡◌, ℕ, ◌+◌, ◌-◌, ◌%◌, ◌<◌, ◌≤◌, Bool, true, false, cond, eqb, ltb, leb, List, [], ◌∷◌, length, map, refl, sym, ap, subst, ◌∙◌, arith, inl, inr}
 use Rattle.std.specs.Prelude.{◌⊎◌, ◌&&◌, ◌||◌, not}
 use Rattle.std.specs.Str.{bytes_eq}
 use Rattle.std.specs.Int.{w32, from_le_bytes}
 use Rattle.std.specs.List.{AllByRecursion}
 use Rattle.std.proofs.lemmas.Bool.{and_parts, ltb-true, leb-true, le-leb, lt-ltb, eqb-false, eqb-true, eq-eqb}
-use Rattle.container_model.specs.Splice.{shift, Outside}
 use Rattle.container_model.specs.Stood.{Stood}
 use Rattle.container_model.specs.Written.{slice, Write}
 use Rattle.container_model.proofs.Codec.{IsBytes}
 use Rattle.container_model.proofs.Written.{Misses, slice_clear}
 use Rattle.container_model.proofs.Stay.{Orders, Rigid, rigid_part}
-use Rattle.carrier_model.specs.Info.{SetsInfo}
 use Rattle.part_tree.specs.declared.names.Span.{Span}
-use Rattle.avi_model.specs.Avi.{Avi, avi_of, inner, body_span, first_movi}
+use Rattle.avi_model.specs.Avi.{Avi, avi_of, spell_avi, body_span, first_movi}
 use Rattle.container_model.specs.Tables.{Table, put32}
 use Rattle.opendml_index.specs.Index.{move}
 use Rattle.avi_model.specs.Index.{writes, indexes, base_in, base, olds, is_head, misses, spans}
@@ -21,15 +19,14 @@ use Rattle.avi_index.specs.Rows.{Base, from_start, from_movi, base_at, base_of, 
 use Rattle.part_tree.specs.Ranges.{within}
 use Rattle.avi_model.specs.Support.{SoundRow, SoundRows, Supported}
 use Rattle.avi_index.specs.Found.{stands_at, based_by, is_based}
-use Rattle.avi_model.specs.NewFile.{Items, new_children, edit_cuts, laid_file}
-use Rattle.avi_model.proofs.Read.{renewed_avi}
 use Rattle.avi_model.proofs.Numbers.{slice_put32, le32_put, old_slices}
 use Rattle.avi_model.proofs.Pieces.{moved_index, moved_old, TablesMove, misses_moves, RowFits, old_rows_map, decides_moves, offset_moves, within_moves, not_true, start_at, movi_at}
 use Rattle.avi_model.proofs.Among.{Among, among_all, map_among}
 use Rattle.avi_model.proofs.Sound.{clear_of, clear_front}
-use Rattle.avi_model.proofs.Fit.{Fits}
+use Rattle.avi_model.proofs.Fit.{FitsBy}
 use Rattle.avi_model.proofs.Moves.{ord, moves_in, movi_holder, movi_among, first_span_is}
-use Rattle.avi_model.proofs.Kept.{tables, base_same}
+use Rattle.avi_model.proofs.Laid.{IsLaid}
+use Rattle.avi_model.proofs.Blanked.{tables, base_same}
 use Rattle.avi_model.proofs.Supports.{all_mapped, rest_of}
 
 either : (a b : Bool) → (a || b) ≡ true → (a ≡ true) ⊎ (b ≡ true)
@@ -67,27 +64,21 @@ is_head_at (u ∷ ts) p t (inr i) e = go (eqb u.at (p + 8)) (is_head_at ts p t i
     go true h = refl
     go false h = h
 
-module _ (o : List ℕ) (bytes : IsBytes o) (s : Supported o) (e : Items) (small : length (inner (new_children (renewed_avi (writes (move (shift (edit_cuts (avi_of o) e))) o) (avi_of o)) e) (avi_of o).left) < 2 ^ 32) (sets : SetsInfo e) (fit : Fits o e) where
-  abbrev f : ℕ → ℕ
-  f = shift (edit_cuts (avi_of o) e)
-
-  abbrev Free : ℕ → Type 0
-  Free p = Outside (edit_cuts (avi_of o) e) p
-
+module _ (o : List ℕ) (bytes : IsBytes o) (s : Supported o) (f : ℕ → ℕ) (Free : ℕ → Type 0) (after : Avi) (facts : IsLaid o f Free after) (fit : FitsBy after f o (spell_avi after)) where
   abbrev ws : List Write
-  ws = writes (move (shift (edit_cuts (avi_of o) e))) o
+  ws = writes (move f) o
 
   abbrev n : List ℕ
-  n = laid_file o e
+  n = spell_avi after
 
-  abbrev order : Orders (shift (edit_cuts (avi_of o) e)) (λ p. Outside (edit_cuts (avi_of o) e) p)
-  order = ord o bytes s e small
+  abbrev order : Orders f Free
+  order = ord o bytes s f Free after facts
 
   abbrev moved : Table → Table
-  moved t = moved_index o (laid_file o e) (shift (edit_cuts (avi_of o) e)) (λ p. Outside (edit_cuts (avi_of o) e) p) (ord o bytes s e small) t
+  moved t = moved_index o (spell_avi after) f Free (ord o bytes s f Free after facts) t
 
-  moves : TablesMove o (laid_file o e) (shift (edit_cuts (avi_of o) e)) (λ p. Outside (edit_cuts (avi_of o) e) p) (ord o bytes s e small)
-  moves = tables o bytes s e small sets fit
+  moves : TablesMove o (spell_avi after) f Free (ord o bytes s f Free after facts)
+  moves = tables o bytes s f Free after facts fit
 
   abbrev ts : List Table
   ts = indexes o
@@ -102,7 +93,7 @@ module _ (o : List ℕ) (bytes : IsBytes o) (s : Supported o) (e : Items) (small
   head_kept : (p : ℕ) → is_head ts p ≡ true → is_head (map moved ts) (f p) ≡ true
   head_kept p h =
       let z = head_at ts p h in
-      let r = rest_of o bytes s e small sets fit z.table z.table_among in
+      let r = rest_of o bytes s f Free after facts fit z.table z.table_among in
       let long = r.whole.header_there in
       let same : r.head ≡ p = omega (arith, r.at_is, z.at_is) in
       let at : f z.table.at ≡ f p + 8 = ap f r.at_is ∙ (r.rigid 8 (omega (arith, long))).1 ∙ ap (λ (q : ℕ). f q + 8) same in
@@ -110,10 +101,10 @@ module _ (o : List ℕ) (bytes : IsBytes o) (s : Supported o) (e : Items) (small
 
   -- a range in the first movi
   abbrev h : Stood
-  h = movi_holder o bytes s e small fit
+  h = movi_holder o bytes s f Free after facts fit
 
-  span_is : first_movi (avi_of o) ≡ body_span (movi_holder o bytes s e small fit)
-  span_is = first_span_is o bytes s e small fit
+  span_is : first_movi (avi_of o) ≡ body_span (movi_holder o bytes s f Free after facts fit)
+  span_is = first_span_is o bytes s f Free after facts fit
 
   record InFirst (p len : ℕ) : Type 0 where
     low : h.at + 8 ≤ p
@@ -142,15 +133,15 @@ module _ (o : List ℕ) (bytes : IsBytes o) (s : Supported o) (e : Items) (small
   stands_kept : (r q : List ℕ) (p : ℕ) → row_id q ≡ row_id r → InFirst p 4 → stands_at o (spans ts) r p ≡ true → stands_at n (spans (map moved ts)) q (f p) ≡ true
   stands_kept r q p id w st =
       let parts = and_parts (bytes_eq (slice o p 4) (row_id r)) (is_head ts p || misses ts p 4) st in
-      let m = moves_in o bytes s e small h (movi_among o bytes s e small fit) p 4 w.low w.high (omega arith) in
+      let m = moves_in o bytes s f Free after facts h (movi_among o bytes s f Free after facts fit) p 4 w.low w.high (omega arith) in
       let clear : AllByRecursion (Misses p 4) ws = go (either (is_head ts p) (misses ts p 4) parts.1) in
       let same : slice n (f p) 4 ≡ slice o p 4 = m.same ∙ slice_clear ws o p 4 clear in
       let one : bytes_eq (slice n (f p) 4) (row_id q) ≡ true = ap (λ (x : List ℕ). bytes_eq x (row_id q)) same ∙ ap (bytes_eq (slice o p 4)) id ∙ parts.0 in
       rw one (both_or (is_head ts p) (misses ts p 4) (is_head (map moved ts) (f p)) (misses (map moved ts) (f p) 4) (head_kept p) (misses_kept p 4 (omega arith) m.rigid) parts.1)
     where
       go : (is_head ts p ≡ true) ⊎ (misses ts p 4 ≡ true) → AllByRecursion (Misses p 4) ws
-      go (inl d) = let z = head_at ts p d in clear_front o bytes s (move f) h (movi_among o bytes s e small fit) z.table z.table_among p 4 z.at_is (omega arith) w.low w.high
-      go (inr d) = clear_of o bytes s (move f) h (movi_among o bytes s e small fit) p 4 w.low w.high d
+      go (inl d) = let z = head_at ts p d in clear_front o bytes s (move f) h (movi_among o bytes s f Free after facts fit) z.table z.table_among p 4 z.at_is (omega arith) w.low w.high
+      go (inr d) = clear_of o bytes s (move f) h (movi_among o bytes s f Free after facts fit) p 4 w.low w.high d
 
   -- ---- the base
 
@@ -242,7 +233,7 @@ module _ (o : List ℕ) (bytes : IsBytes o) (s : Supported o) (e : Items) (small
 
   pub new_rows_sound : AllByRecursion (SoundRows (base n) (first_movi (avi_of n)) (indexes n)) (olds n)
   new_rows_sound =
-      subst (λ (b : Base). AllByRecursion (SoundRows b (first_movi (avi_of n)) (indexes n)) (olds n)) (sym (base_same o bytes s e small sets fit))
+      subst (λ (b : Base). AllByRecursion (SoundRows b (first_movi (avi_of n)) (indexes n)) (olds n)) (sym (base_same o bytes s f Free after facts fit))
       (subst (λ (us : List Table). AllByRecursion (SoundRows (base o) (first_movi (avi_of n)) (indexes n)) us) (sym moves.olds_move)
       (subst (λ (us : List Table). AllByRecursion (SoundRows (base o) (first_movi (avi_of n)) us) (map (moved_old o n f Free order (base o)) (olds o))) (sym moves.indexes_move)
       (subst (λ (x : Span). AllByRecursion (SoundRows (base o) x (map moved ts)) (map (moved_old o n f Free order (base o)) (olds o))) (sym moves.movi_moves)

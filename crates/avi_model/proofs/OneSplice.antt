@@ -36,6 +36,7 @@ use Rattle.avi_model.proofs.Edited.{spliced_law}
 use Rattle.avi_model.proofs.Fit.{Fits, fits_of}
 use Rattle.avi_model.proofs.Frames.{alone, same_cuts, ascends, again as read_again}
 use Rattle.avi_model.proofs.Merged.{ApartFrom, Level, AllApart, Real, GoesAsOne, rigid_apart, merged, merged_ascends, merged_shifts, first_shifts, all_low, put_both}
+use Rattle.avi_model.proofs.Listed.{fits_after, listed_laid}
 use Rattle.avi_model.proofs.Moves.{index_rests, old_fine}
 use Rattle.avi_model.proofs.Sound.{index_bytes, old_bytes}
 use Rattle.avi_model.proofs.Tabled.{tables_ascend, tables_spliced, all_tables}
@@ -266,13 +267,13 @@ module _ (o : List ℕ) (bytes : IsBytes o) (s : Supported o) (e : Items) (fit :
     where
       index : (t : Table) → Among t (indexes o) → AllByRecursion (ApartFrom (cut_of_write (write_index (move (shift (edit_cuts (avi_of o) e))) t))) (edit_cuts (avi_of o) e)
       index t i =
-          let r = index_rests o bytes s e small fit t i in
+          let r = index_rests o bytes s (shift (edit_cuts (avi_of o) e)) (λ p. Outside (edit_cuts (avi_of o) e) p) (Rattle.avi_model.specs.NewFile.laid (Rattle.avi_model.proofs.Read.renewed_avi (writes (move (shift (edit_cuts (avi_of o) e))) o) (avi_of o)) e) (listed_laid o bytes s e small) (fits_after o bytes s e small fit) t i in
           clear_of (cut_of_write (write_index how t)) r.head (8 + length t.body) r.at_is (omega (arith, r.at_is, index_bytes o bytes s how t i)) (omega arith) (λ k lt. r.rigid k lt)
 
       old : (x : Stood) → Among x (old_indexes (avi_of o)) → AllByRecursion (ApartFrom (cut_of_write (write_old (move (shift (edit_cuts (avi_of o) e))) (base o) (table_of x)))) (edit_cuts (avi_of o) e)
       old x i =
           let m = among_all (Moves_as_one (shift (edit_cuts (avi_of o) e)) (λ p. Outside (edit_cuts (avi_of o) e) p)) (old_indexes (avi_of o)) olds_as_one x i in
-          let k = Rattle.avi_model.proofs.Lies.body_end x (old_fine o bytes s e small fit x i).head in
+          let k = Rattle.avi_model.proofs.Lies.body_end x (old_fine o bytes s (shift (edit_cuts (avi_of o) e)) (λ p. Outside (edit_cuts (avi_of o) e) p) (Rattle.avi_model.specs.NewFile.laid (Rattle.avi_model.proofs.Read.renewed_avi (writes (move (shift (edit_cuts (avi_of o) e))) o) (avi_of o)) e) (listed_laid o bytes s e small) (fits_after o bytes s e small fit) x i).head in
           clear_of (cut_of_write (write_old how (base o) (table_of x))) x.at (8 + length x.chunk.body) refl (omega (arith, old_bytes o bytes s how (table_of x))) (omega arith) (λ j lt. m j (omega (arith, k, lt)))
 
   tables_level : AllByRecursion Level (table_cuts (move (shift (edit_cuts (avi_of o) e))) o)
@@ -280,7 +281,7 @@ module _ (o : List ℕ) (bytes : IsBytes o) (s : Supported o) (e : Items) (fit :
 
   -- all spans begin behind the form's header
   tables_low : AllByRecursion (λ c. 8 ≤ c.at) (table_cuts (move (shift (edit_cuts (avi_of o) e))) o)
-  tables_low = all_tables o bytes s how (λ c. 8 ≤ c.at) (λ t i. let r = index_rests o bytes s e small fit t i in omega (arith, r.at_is)) (λ x i. omega arith)
+  tables_low = all_tables o bytes s how (λ c. 8 ≤ c.at) (λ t i. let r = index_rests o bytes s (shift (edit_cuts (avi_of o) e)) (λ p. Outside (edit_cuts (avi_of o) e) p) (Rattle.avi_model.specs.NewFile.laid (Rattle.avi_model.proofs.Read.renewed_avi (writes (move (shift (edit_cuts (avi_of o) e))) o) (avi_of o)) e) (listed_laid o bytes s e small) (fits_after o bytes s e small fit) t i in omega (arith, r.at_is)) (λ x i. omega arith)
 
   edits_low : AllByRecursion (λ c. 8 ≤ c.at) (edit_cuts (avi_of o) e)
   edits_low = from_first (edit_cuts (avi_of o) e) (length o) (first_cut (avi_of o) e) order

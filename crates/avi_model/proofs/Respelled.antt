@@ -8,8 +8,6 @@ use Rattle.std.proofs.lemmas.List.{length-append, length-take, length-replicate,
 use Rattle.container_model.specs.Chunk.{Form, riff, pad_len, Chunk, ends, spell_all, chunks, Pads, PadStands}
 use Rattle.container_model.specs.Sizes.{plain, riff_front}
 use Rattle.container_model.specs.Units.{Cell, live, padded, shut, lay}
-use Rattle.container_model.proofs.Codec.{IsBytes, IsBytes-drop, chunks_pads}
-use Rattle.container_model.proofs.Fronts.{riff_gives_back}
 use Rattle.container_model.proofs.Plain.{IsPlain, ArePlain, plain_again, plain_chunks, plain_left}
 use Rattle.container_model.proofs.Reread.{IsPadded, lay_pads}
 use Rattle.container_model.proofs.Units.{lay_all}
@@ -58,20 +56,21 @@ respelled_stands c b more now is none h = go (eqb (length b % 2) (length c.body 
 -- a list that is read to its end
 pub record IsList (c : Chunk) : Type 0 where
   pub form_is : c.form ≡ riff
-  pub bytes : IsBytes c.body
   pub long : 4 ≤ length c.body
   pub all_read : (list_run c).stop ≡ ends
+  pub pads : Pads (list_run c).chunks (list_run c).left
+  pub spelled : spell_all (list_run c).chunks ++ (list_run c).left ≡ drop 4 c.body
 
 pub list_plain : (c : Chunk) → ArePlain (list_run c).chunks
 list_plain c = plain_chunks (drop 4 c.body)
 
 pub list_pads : (c : Chunk) → IsList c → Pads (list_run c).chunks (list_run c).left
-list_pads c h = chunks_pads riff_front riff_gives_back plain (drop 4 c.body) (IsBytes-drop 4 c.body h.bytes)
+list_pads c h = h.pads
 
 pub list_short : (c : Chunk) → IsList c → length (list_run c).left < 8
 list_short c h = plain_left (drop 4 c.body) h.all_read
 
-word_long : (c : Chunk) → IsList c → length (take 4 c.body) ≡ 4
+pub word_long : (c : Chunk) → IsList c → length (take 4 c.body) ≡ 4
 word_long c h = omega (arith, length-take 4 c.body, h.long)
 
 -- its chunks and its rest are read again

@@ -24,7 +24,6 @@ use Rattle.carrier_model.proofs.Names.{was_names, quiet_names}
 use Rattle.avi_model.specs.Avi.{has_id, kids}
 use Rattle.avi_model.specs.Named.{Names, is_named, names_after, new_names, cell_by, cell_of, list_with, ends_list, is_strl, strl_pieces, strl_fill, strl_named, kid_named, kids_named, hdrl_named, Site, sites_from, sites_in, strl_cuts, hdrl_cuts}
 use Rattle.avi_model.proofs.Blocks.{block_same, block_pad, Follows, follow_none, follow_same, follow_further, follow_behind, follow_both, follow_before, follow_copied, follow_pieces}
-use Rattle.avi_model.proofs.Lies.{list_joined}
 use Rattle.avi_model.proofs.Respelled.{IsList, list_length, made_names, all_names, laid_chunks, strl_run}
 use Rattle.avi_model.proofs.Streams.{IsKid, AreKids, kid_strl, laid_small, list_with_plain, hdrl_run}
 use Rattle.avi_model.proofs.Tables.{was_cells}
@@ -42,7 +41,7 @@ spell_is c h =
 -- how long a list is
 list_is : (c : Chunk) → IsList c → length c.body ≡ 4 + (length (spell_all (list_run c).chunks) + length (list_run c).left)
 list_is c h =
-    omega (arith, ap length (list_joined (record { at = 0; chunk = c }) h.bytes), length-append (spell_all (list_run c).chunks) (list_run c).left, length-drop 4 c.body, h.long)
+    omega (arith, ap length h.spelled, length-append (spell_all (list_run c).chunks) (list_run c).left, length-drop 4 c.body, h.long)
 
 quiet_cells : (cs : List Chunk) → Quiet is_index (map cell_of cs)
 quiet_cells [] = tt
@@ -116,7 +115,7 @@ module _ (ends_too : Bool) (vs : List (List ℕ)) (c : Chunk) (plain : IsPlain c
   pub was_is : flat_map was (name_cells (made_names vs) (map cell_of (list_run c).chunks)) ≡ (list_run c).chunks
   was_is = was_names (made_names vs) (map cell_of (list_run c).chunks) ∙ was_cells (list_run c).chunks
 
-  old_is : old_length (strl_pieces (made_names vs) c) ≡ length (spell_all (list_run c).chunks)
+  pub old_is : old_length (strl_pieces (made_names vs) c) ≡ length (spell_all (list_run c).chunks)
   old_is = ap length (units_old shut (name_cells (made_names vs) (map cell_of (list_run c).chunks))) ∙ ap (λ (cs : List Chunk). length (spell_all cs)) was_is
 
   abbrev slots_in : ℕ → List Cut

@@ -6,33 +6,31 @@ use Rattle.std.specs.Int.{w32, from_le_bytes}
 use Rattle.std.specs.List.{flat_map, AllByRecursion}
 use Rattle.std.proofs.lemmas.Bool.{and_parts, ltb-false, leb-true, le-leb, le-ltb, lt-ltb, eqb-false}
 use Rattle.std.proofs.lemmas.List.{length-map}
-use Rattle.container_model.specs.Splice.{shift, Outside}
 use Rattle.container_model.specs.Stood.{Stood}
 use Rattle.container_model.specs.Written.{slice, Write, written}
 use Rattle.container_model.proofs.Codec.{IsBytes}
 use Rattle.container_model.proofs.Written.{length-written, slice_clear, misses_in}
 use Rattle.container_model.proofs.Stay.{Orders, Rigid, stays_part, rigid_part, lt_moves, end_moves}
 use Rattle.container_model.proofs.Stood.{carried_to}
-use Rattle.carrier_model.specs.Info.{SetsInfo}
 use Rattle.part_tree.specs.declared.names.Span.{Span}
-use Rattle.avi_model.specs.Avi.{Avi, avi_of, inner, body_span, essence}
+use Rattle.avi_model.specs.Avi.{Avi, avi_of, spell_avi, body_span, essence}
 use Rattle.container_model.specs.Tables.{Table, named, put32, size_at}
-use Rattle.opendml_index.specs.Index.{How, move, is_super, width, used, entries, super_place, super_places, super_row, super_body, index_base, entry_offset, entry_length, entry_second, has_second, entry_row, entry_by, second_by, first_counted, standard_with, standard_by, index_by, index_body}
-use Rattle.avi_model.specs.Index.{writes, streams, indexes, base, olds, is_head, misses}
+use Rattle.opendml_index.specs.Index.{How, move, is_super, width, used, entries, super_places, super_body, index_base, entry_offset, entry_length, entry_second, has_second, entry_row, entry_by, second_by, first_counted, standard_with, standard_by, index_by, index_body}
+use Rattle.avi_model.specs.Index.{writes, streams, indexes, misses}
 use Rattle.part_tree.specs.Ranges.{within, in_one}
 use Rattle.opendml_index.specs.Kinds.{kind, is_index_kind, is_standard_kind, SoundIndex, second_lies}
-use Rattle.avi_model.specs.Support.{movi_spans, SoundPlace, put_by_place, by_place, Apart, entry_lies, SoundEntry, SoundEntries, SoundRow, SoundRows, Supported}
-use Rattle.avi_model.specs.NewFile.{Items, new_children, edit_cuts, laid_file}
-use Rattle.avi_model.proofs.Read.{renewed_avi}
-use Rattle.avi_model.proofs.Numbers.{Whole, slice_put32, slice_put64, le32_put, super_front, super_length, super_entries, standard_front, standard_length, standard_entries, standard_base, index_length, index_is, old_slices}
+use Rattle.avi_model.specs.Support.{movi_spans, SoundPlace, put_by_place, by_place, Apart, SoundEntry, SoundEntries, Supported}
+use Rattle.avi_model.proofs.Read.{avi_again}
+use Rattle.avi_model.proofs.Numbers.{Whole, slice_put32, le32_put, super_front, super_entries, standard_front, standard_entries, standard_base, index_length, index_is}
 use Rattle.avi_model.proofs.Pieces.{moved_index, TablesMove, Rests, body_ok, misses_moves, SuperFits, CountedFits, EntryFits, StandardFits, IndexFits_by}
 use Rattle.avi_model.proofs.Follow.{NamedFine, NamesFine_by, named_moves, places_move}
-use Rattle.avi_model.proofs.Among.{Among, all_among, among_all, among_append, among_map, map_among}
+use Rattle.avi_model.proofs.Among.{Among, all_among, among_all, map_among}
 use Rattle.avi_model.proofs.Sound.{holder_of, index_sound, named_sound}
-use Rattle.avi_model.proofs.Fit.{Fits}
-use Rattle.avi_model.proofs.Moves.{ord, MovesIn, moves_in, PlaceMoves, place_moves, index_rests, index_fits, names_fine, movi_holder, movi_among, first_span_is, RowMoves, row_moves, EntryMoves, entry_moves, index_kind}
-use Rattle.avi_model.proofs.Kept.{tables}
-use Rattle.avi_model.proofs.Lists.{edited, essence_moves}
+use Rattle.avi_model.proofs.Fit.{FitsBy}
+use Rattle.avi_model.proofs.Moves.{ord, place_moves, index_fits}
+use Rattle.avi_model.proofs.Laid.{IsLaid}
+use Rattle.avi_model.proofs.Blanked.{tables}
+use Rattle.avi_model.proofs.LaidForms.{essence_moves}
 
 -- ---- one index chunk
 
@@ -82,33 +80,27 @@ pub all_mapped : {X Y : Type 0} (P : Y → Type 0) (g : X → Y) (xs : List X) �
 all_mapped P g [] h = tt
 all_mapped P g (x ∷ xs) h = (h x (inl refl), all_mapped P g xs (λ y i. h y (inr i)))
 
-module _ (o : List ℕ) (bytes : IsBytes o) (s : Supported o) (e : Items) (small : length (inner (new_children (renewed_avi (writes (move (shift (edit_cuts (avi_of o) e))) o) (avi_of o)) e) (avi_of o).left) < 2 ^ 32) (sets : SetsInfo e) (fit : Fits o e) where
+module _ (o : List ℕ) (bytes : IsBytes o) (s : Supported o) (f : ℕ → ℕ) (Free : ℕ → Type 0) (after : Avi) (facts : IsLaid o f Free after) (fit : FitsBy after f o (spell_avi after)) where
   abbrev a : Avi
   a = avi_of o
 
-  abbrev f : ℕ → ℕ
-  f = shift (edit_cuts (avi_of o) e)
-
-  abbrev Free : ℕ → Type 0
-  Free p = Outside (edit_cuts (avi_of o) e) p
-
   abbrev ws : List Write
-  ws = writes (move (shift (edit_cuts (avi_of o) e))) o
+  ws = writes (move f) o
 
   abbrev n : List ℕ
-  n = laid_file o e
+  n = spell_avi after
 
-  abbrev order : Orders (shift (edit_cuts (avi_of o) e)) (λ p. Outside (edit_cuts (avi_of o) e) p)
-  order = ord o bytes s e small
+  abbrev order : Orders f Free
+  order = ord o bytes s f Free after facts
 
   abbrev moved : Table → Table
-  moved t = moved_index o (laid_file o e) (shift (edit_cuts (avi_of o) e)) (λ p. Outside (edit_cuts (avi_of o) e) p) (ord o bytes s e small) t
+  moved t = moved_index o (spell_avi after) f Free (ord o bytes s f Free after facts) t
 
-  moves : TablesMove o (laid_file o e) (shift (edit_cuts (avi_of o) e)) (λ p. Outside (edit_cuts (avi_of o) e) p) (ord o bytes s e small)
-  moves = tables o bytes s e small sets fit
+  moves : TablesMove o (spell_avi after) f Free (ord o bytes s f Free after facts)
+  moves = tables o bytes s f Free after facts fit
 
-  reads : avi_of (laid_file o e) ≡ edited o bytes s e small sets
-  reads = (Rattle.avi_model.proofs.Essence.facts o bytes s e small).new_reads
+  reads : avi_of (spell_avi after) ≡ after
+  reads = avi_again after facts.readable
 
   rests : AllByRecursion (Rests o n f Free order) (indexes o)
   rests = moves.indexes_rest
@@ -116,7 +108,7 @@ module _ (o : List ℕ) (bytes : IsBytes o) (s : Supported o) (e : Items) (small
   -- ---- the streams' indexes
 
   streams_move : streams n ≡ map moved (streams o)
-  streams_move = Rattle.avi_model.proofs.Law.streams_are o e (Rattle.avi_model.proofs.Essence.facts o bytes s e small) (Rattle.avi_model.proofs.Moves.table_facts o bytes s e small fit)
+  streams_move = Rattle.avi_model.proofs.Law.streams_are o f Free after facts (Rattle.avi_model.proofs.Moves.table_facts o bytes s f Free after facts fit)
 
   stream_in : (t : Table) → Among t (streams o) → Among t (indexes o)
   stream_in t i = Rattle.avi_model.proofs.Among.among_front (streams o) (flat_map (Rattle.avi_model.specs.Index.named_by o) (streams o)) t i
@@ -129,7 +121,7 @@ module _ (o : List ℕ) (bytes : IsBytes o) (s : Supported o) (e : Items) (small
   -- ---- ranges in the essence
 
   spans_move : movi_spans (avi_of n) ≡ map (λ (x : Span). record { at = f (x.at - 8) + 8; len = x.len }) (movi_spans a)
-  spans_move = ap (λ (x : Avi). map body_span (essence x)) reads ∙ ap (map body_span) (essence_moves o bytes s e small sets) ∙ go (essence a)
+  spans_move = ap (λ (x : Avi). map body_span (essence x)) reads ∙ ap (map body_span) (essence_moves o bytes s f Free after facts) ∙ go (essence a)
     where
       one : (x : Stood) → body_span (carried_to f ws x) ≡ record { at = f ((x.at + 8) - 8) + 8; len = length x.chunk.body }
       one x =
@@ -155,7 +147,7 @@ module _ (o : List ℕ) (bytes : IsBytes o) (s : Supported o) (e : Items) (small
       let m = holder_of a p len h in
       let low = m.low in
       let high = m.high in
-      let whole = Rattle.avi_model.proofs.Essence.essence_stays o bytes s e small m.movi m.movi_among in
+      let whole = Rattle.avi_model.proofs.Essence.essence_stays o bytes s f Free after facts m.movi m.movi_among in
       let back : m.movi.at + (p - m.movi.at) ≡ p = omega arith in
       let here : f p ≡ f m.movi.at + (p - m.movi.at) = ap f (sym back) ∙ (whole.rigid (p - m.movi.at) (omega arith)).1 in
       let first : (m.movi.at + 8) - 8 ≡ m.movi.at = omega arith in
@@ -171,8 +163,8 @@ module _ (o : List ℕ) (bytes : IsBytes o) (s : Supported o) (e : Items) (small
   place_sound : (t : Table) → Among t (streams o) → is_super t.body ≡ true → (p : ℕ) → Among p (super_places t.body) → SoundPlace n (f p)
   place_sound t i super p j =
       let q = named_sound o bytes s t i super p j in
-      let m = place_moves o bytes s e small p q in
-      let fine = named_fine (Rattle.avi_model.proofs.Moves.names_fine o bytes s e small fit t i).1 in
+      let m = place_moves o bytes s f Free after facts p q in
+      let fine = named_fine (Rattle.avi_model.proofs.Moves.names_fine o bytes s f Free after facts fit t i).1 in
       let is : named n (f p) ≡ moved (named o p) = named_moves o n f Free order ws p fine in
       let four = stays_part (written ws 0 o) n f Free p (8 + size_at o p) 4 4 (omega arith) (omega arith) m.stays in
       let at4 : f (p + 4) ≡ f p + 4 = (m.stays.rigid 4 (omega arith)).1 in
@@ -192,7 +184,7 @@ module _ (o : List ℕ) (bytes : IsBytes o) (s : Supported o) (e : Items) (small
       one t i super =
           let w = (index_sound o bytes s t (stream_in t i)).whole in
           let old : is_super t.body ≡ true = sym (index_is (move f) t.body w) ∙ super in
-          let fits : AllByRecursion (SuperFits o n f Free order) (entries t.body) = Rattle.avi_model.proofs.Moves.super_fits o bytes s e small fit t i old in
+          let fits : AllByRecursion (SuperFits o n f Free order) (entries t.body) = Rattle.avi_model.proofs.Moves.super_fits o bytes s f Free after facts fit t i old in
           let bodies : index_body (move f) t.body ≡ super_body (move f) t.body = ap (index_by (move f) t.body) old in
           let places : super_places (index_body (move f) t.body) ≡ map f (super_places t.body) = ap super_places bodies ∙ ap (λ (rs : List (List ℕ)). flat_map Rattle.opendml_index.specs.Index.used_place rs) (super_entries (move f) t.body w) ∙ places_move o n f Free order ws (entries t.body) fits in
           subst (AllByRecursion (SoundPlace n)) (sym places) (all_mapped (SoundPlace n) f (super_places t.body) (λ p j. place_sound t i old p j))
@@ -359,7 +351,7 @@ module _ (o : List ℕ) (bytes : IsBytes o) (s : Supported o) (e : Items) (small
   new_entries_sound = subst (AllByRecursion (λ t. is_super t.body ≡ false → SoundEntries n t)) (sym moves.indexes_move) (all_mapped (λ t. is_super t.body ≡ false → SoundEntries n t) moved (indexes o) one)
     where
       one : (t : Table) → Among t (indexes o) → is_super (index_body (move f) t.body) ≡ false → SoundEntries n (moved t)
-      one t i super = go (first_counted (entries t.body)) refl (subst (IndexFits_by o n f Free order t.body) old (index_fits o bytes s e small fit t i))
+      one t i super = go (first_counted (entries t.body)) refl (subst (IndexFits_by o n f Free order t.body) old (index_fits o bytes s f Free after facts fit t i))
         where
           w : Whole t.body
           w = (index_sound o bytes s t i).whole

@@ -61,7 +61,7 @@ module _ (p : Chunk → Bool) (apart : Apart p) where
   pub quiet_edit : (e : Items) (xs : List Rattle.container_model.specs.Units.Cell) → Quiet p xs → Quiet p (Rattle.carrier_model.specs.Lists.edit_list_cells info info_items home e xs)
   quiet_edit e xs h = quiet_lists p info info_items apart.on_list (λ c items rest. apart.on_new items rest) (λ items. apart.on_new items []) home e xs h
 
-  quiet_cells : (cs : List Chunk) → Quiet p (map cell_of cs)
+  pub quiet_cells : (cs : List Chunk) → Quiet p (map cell_of cs)
   quiet_cells [] = tt
   quiet_cells (c ∷ cs) = go (is_padding c) refl (quiet_cells cs)
     where
@@ -69,7 +69,7 @@ module _ (p : Chunk → Bool) (apart : Apart p) where
       go true e h = (apart.on_padding c e, h)
       go false e h = h
 
-  fill_unseen : (b last : Bool) (slot : List ℕ) (k : ℕ) → Unseen p (riff_fill b last slot k)
+  pub fill_unseen : (b last : Bool) (slot : List ℕ) (k : ℕ) → Unseen p (riff_fill b last slot k)
   fill_unseen b last slot k = go (leb (length slot) k || (b && last))
     where
       go : (t : Bool) → Unseen p (fill_by slot k t)
@@ -110,7 +110,7 @@ module _ (a : Avi) (e : Items) (ws : List Write) where
   abbrev Free : ℕ → Type 0
   Free p = Outside (edit_cuts (renewed_avi ws a) e) p
 
-  renewed_as_one : (xs : List Stood) → AllByRecursion (Moves_as_one places Free) (map (renew_at ws) xs) → AllByRecursion (Moves_as_one places Free) xs
+  pub renewed_as_one : (xs : List Stood) → AllByRecursion (Moves_as_one places Free) (map (renew_at ws) xs) → AllByRecursion (Moves_as_one places Free) xs
   renewed_as_one [] h = tt
   renewed_as_one (x ∷ xs) h = ((λ i lt. h.0 i (omega (arith, lt, alike_len x.chunk (Rattle.container_model.proofs.Written.renew ws x.at x.chunk) (renew_alike ws x.at x.chunk)))), renewed_as_one xs h.1)
 

@@ -36,7 +36,7 @@ type_stays ws x head h e =
     let q = x.at + Rattle.container_model.proofs.Written.head_length x.chunk in
     written-take ws q 4 x.chunk.body ∙ written_clear ws q (take 4 x.chunk.body) (misses_in (x.at + 8) 4 _ _ ws (omega (arith, head)) (omega (arith, head, length-take 4 x.chunk.body)) (h e))
 
-type_same : (w : List ℕ) (f : ℕ → ℕ) (ws : List Write) (x : Stood) → IsRiffHead x → TypeStays ws x → is_type w ((carried_to f ws x).chunk) ≡ is_type w (x.chunk)
+pub type_same : (w : List ℕ) (f : ℕ → ℕ) (ws : List Write) (x : Stood) → IsRiffHead x → TypeStays ws x → is_type w ((carried_to f ws x).chunk) ≡ is_type w (x.chunk)
 type_same w f ws x head h = go (bytes_eq x.chunk.id (codes "LIST")) refl
   where
     go : (t : Bool) → bytes_eq x.chunk.id (codes "LIST") ≡ t → (own_size x.chunk.form && (bytes_eq x.chunk.id (codes "LIST") && bytes_eq (take 4 (renew ws x.at x.chunk).body) w)) ≡ (own_size x.chunk.form && (bytes_eq x.chunk.id (codes "LIST") && bytes_eq (take 4 x.chunk.body) w))

@@ -5,7 +5,9 @@
 
 ghost use Rattle.std.specs.Prelude.{◌≡◌, ◌<◌, ◌≤◌, ◌+◌, ◌*◌, ◌-◌, ◌^◌, ◌⊎◌, ◌++◌, ℕ, Bool, List, [], length, map, take, drop, None};
 ghost use Rattle.me_bytes.specs.Bytes.{IsBytes};
+ghost use Rattle.part_tree.specs.Names.{IsFieldName};
 ghost use Rattle.part_tree.specs.declared.field.EditItem.{EditItem};
+ghost use Rattle.part_tree.specs.declared.field.FieldName.{FieldName};
 ghost use Rattle.part_tree.specs.declared.table.IndexHead.{IndexHead};
 ghost use Rattle.part_tree.specs.declared.table.TableForm.TheVariants.{Super, Standard};
 ghost use Rattle.part_tree.specs.Moves.{Move};
@@ -30,9 +32,9 @@ ghost use Rattle.avi_model.specs.Named.{Names, named};
 ghost use Rattle.avi_model.specs.NamesSet.{NamesSet};
 ghost use Rattle.avi_model.specs.NewFile.{moves};
 ghost use Rattle.avi_model.specs.Splices.{IsOneSplice};
-ghost use Rattle.field_model.specs.Kind.{IsKind, SameEdit};
+ghost use Rattle.field_model.specs.Kind.{IsAccepted, IsKind, NamesFields, SameEdit};
 ghost use Rattle.field_model.specs.Lawful.{IsLawful};
-ghost use Rattle.field_model.specs.Update.{effective};
+ghost use Rattle.field_model.specs.Update.{effective, update};
 ghost use Rattle.avi_model.specs.Edited.{changes, fields, new_file};
 ghost use Rattle.avi_model.specs.Joined.{old_form};
 ghost use Rattle.avi_model.specs.Kind.{avi_kind, listed_kind};
@@ -70,6 +72,18 @@ pub fn named_edits_come_to_the_same()
     ensures by_effect { (o : List ℕ) (e all : List EditItem) → e ≡ effective (avi_kind.fields o) all
         → SameEdit avi_kind o e all }
     ensures lawful { (o : List ℕ) → IsLawful (avi_kind.fields o) }
+{}
+
+/// Of the same files: an accepted edit of fields and names that isn't too large makes a supported file, whose fields read back
+/// as the old ones updated, and whose tables find the same.
+pub fn named_edits_are_made()
+    ensures supported { (o : List ℕ) (e : List EditItem) → IsBytes o → avi_kind.why o ≡ None → IsAccepted avi_kind o e
+        → avi_kind.too_large o e ≡ None → avi_kind.why (avi_kind.new_file o e) ≡ None }
+    ensures fields { (o : List ℕ) (e : List EditItem) → IsBytes o → avi_kind.why o ≡ None → IsAccepted avi_kind o e
+        → avi_kind.too_large o e ≡ None → (name : FieldName) → IsFieldName name ⊎ NamesFields e
+        → avi_kind.fields (avi_kind.new_file o e) name ≡ update (avi_kind.fields o) e name }
+    ensures tables { (o : List ℕ) (e : List EditItem) → IsBytes o → avi_kind.why o ≡ None → IsAccepted avi_kind o e
+        → avi_kind.too_large o e ≡ None → avi_kind.pieces (avi_kind.new_file o e) ≡ avi_kind.pieces o }
 {}
 
 /// Where lists change and nothing is too large, the new file is the old one with the spans of one list replaced: the form's

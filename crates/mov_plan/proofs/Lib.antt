@@ -5,3 +5,6 @@ pub mod Stepped
 pub mod Told
 pub mod Plain
 pub mod Joined
+pub mod Texts
+pub mod Changed
+pub mod Items

@@ -1,5 +1,5 @@
 //! From the places of the atoms of a QuickTime movie to the slots that an edit replaces: units of edited atoms with their padding,
-//! the last of which may go on behind `moov`. It reads no map, and doesn't know what an edit makes of an atom.
+//! the last of which may go on behind `moov`; and the user data after an edit of its texts. It reads no map.
 #![tactic(auto)]
 
 ghost use Rattle.std.specs.Prelude.{ℕ, List, false};
@@ -17,12 +17,14 @@ mod row;
 #[cfg(test)]
 mod tests;
 mod unit;
+mod user;
 
 use mov_model as _;
 pub use place::{Behind, Place};
 use qt_text as _;
 pub use row::{Units, unit_cuts};
 pub use unit::{FilledUnit, OpenUnit};
+pub use user::{UserBody, UserChange, UserFault, UserItem, UserItems, edit_user};
 
 /// What the units of a supported movie's atoms come to, by their shapes alone, is what an edit of the movie replaces and patches,
 /// whether that has room, and how long the body of `moov` is then.
