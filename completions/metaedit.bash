@@ -1,9 +1,7 @@
 # Completion of metaedit for bash. Source this file, or put it where bash-completion looks for `metaedit`.
 _metaedit() {
-    local commands='set recover'
-    local with_rules=' set '
-    commands="$commands show validate md5"
-    with_rules=' set validate '
+    local commands='set apply recover show export validate md5 make'
+    local with_rules=' set validate apply ' with_form=' apply export '
     local rules='base ebu info fadgi'
     local fields='Description= Originator= OriginatorReference= OriginationDate= OriginationTime= TimeReference= UMID=
         LoudnessValue= LoudnessRange= MaxTruePeakLevel= MaxMomentaryLoudness= MaxShortTermLoudness= CodingHistory=
@@ -11,18 +9,28 @@ _metaedit() {
         axml= iXML= XMP= MD5='
     local word=${COMP_WORDS[COMP_CWORD]} command=${COMP_WORDS[1]-}
     COMPREPLY=()
-    # the value of `--rules=` comes as words of its own, since bash splits at `=`
-    if [ "$COMP_CWORD" -ge 4 ] && [ "${COMP_WORDS[3]}" = --rules ] &&
-        { [ "$COMP_CWORD" = 4 ] || { [ "$COMP_CWORD" = 5 ] && [ "${COMP_WORDS[4]}" = '=' ]; }; }; then
-        COMPREPLY=($(compgen -W "$rules" -- "${word#=}"))
-        return
+    # the value of an option comes as words of its own, since bash splits at `=`
+    local option=${COMP_WORDS[COMP_CWORD - 1]}
+    [ "$option" = '=' ] && option=${COMP_WORDS[COMP_CWORD - 2]}
+    [ "$word" = '=' ] && word=''
+    if [ "$COMP_CWORD" -ge 4 ]; then
+        case $option in
+            --rules) COMPREPLY=($(compgen -W "$rules" -- "$word")); return ;;
+            --as) COMPREPLY=($(compgen -W 'csv xml' -- "$word")); return ;;
+        esac
     fi
     case $COMP_CWORD in
         1) COMPREPLY=($(compgen -W "$commands" -- "$word")) ;;
         2) compopt -o filenames 2>/dev/null; COMPREPLY=($(compgen -f -- "$word")) ;;
         *)
-            if [ "$COMP_CWORD" = 3 ] && [[ $with_rules = *" $command "* ]]; then
+            if [[ $with_rules = *" $command "* ]] && { [ "$COMP_CWORD" = 3 ] || [ "$command" = apply ]; }; then
                 COMPREPLY=($(compgen -W '--rules' -- "$word"))
+            fi
+            if [[ $with_form = *" $command "* ]]; then
+                COMPREPLY+=($(compgen -W '--as' -- "$word"))
+            fi
+            if [ "$command" = make ] && [ "$COMP_CWORD" = 3 ]; then
+                COMPREPLY=($(compgen -W 'wave avi mov' -- "$word"))
             fi
             if [ "$command" = set ]; then
                 compopt -o nospace 2>/dev/null

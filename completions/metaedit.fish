@@ -13,7 +13,13 @@ end
 complete -c metaedit -f
 complete -c metaedit -n '__metaedit_word 1' -a set -d 'Edit fields'
 complete -c metaedit -n '__metaedit_word 1' -a recover -d 'Settle the file after a crash'
+complete -c metaedit -n '__metaedit_word 1' -a apply -d 'Edit fields by the table on standard input'
+complete -c metaedit -n '__metaedit_word 1' -a export -d 'Print a table of the fields'
+complete -c metaedit -n '__metaedit_word 1' -a make -d 'Make a stated file and edit it'
 complete -c metaedit -n '__metaedit_word 2' -F
+complete -c metaedit -n '__metaedit_command apply export; and not __metaedit_word 1; and not __metaedit_word 2' -l as -x -a 'csv xml' -d 'The form of the table'
+complete -c metaedit -n '__metaedit_command apply; and not __metaedit_word 1; and not __metaedit_word 2' -l rules -x -a 'base ebu info fadgi' -d 'The rules that are tested'
+complete -c metaedit -n '__metaedit_word 3; and __metaedit_command make' -a 'wave avi mov' -d 'The kind of the file'
 complete -c metaedit -n '__metaedit_word 3; and __metaedit_command set' -l rules -x -a 'base ebu info fadgi' -d 'The rules that are tested'
 complete -c metaedit -n '__metaedit_command set; and not __metaedit_word 1; and not __metaedit_word 2' -a 'Description= Originator= OriginatorReference= OriginationDate= OriginationTime= TimeReference= UMID= LoudnessValue= LoudnessRange= MaxTruePeakLevel= MaxMomentaryLoudness= MaxShortTermLoudness= CodingHistory= IARL= IART= ICMS= ICMT= ICOP= ICRD= IENG= IGNR= IKEY= IMED= INAM= IPRD= ISBJ= ISFT= ISRC= ISRF= ITCH= axml= iXML= XMP= MD5='
 complete -c metaedit -n '__metaedit_word 1' -a show -d 'Print all fields'

@@ -1,3 +1,4 @@
 pub mod Growth
 pub mod Lengths
 pub mod Zeros
+pub mod Below

@@ -49,6 +49,7 @@ module _ (q : Request) (stood : Bool) (a b : Disk) (reads : ReadsOnly a b) where
   leaves_it : (s : Stop) → ActStops q a b s → ActLeaves q a b s
   leaves_it stop.Depot h = λ o held bytes. let w = reads.written in omega (arith, w)
   leaves_it stop.NoFile h = reads
+  leaves_it stop.FileThere h = reads
   leaves_it (stop.Damaged at) h = reads
   leaves_it (stop.NotSupported w) h = reads
   leaves_it (stop.RuleBroken w) h = reads

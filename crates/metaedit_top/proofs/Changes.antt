@@ -1,5 +1,5 @@
 -- What the run of a plan comes to for the file that stood alone.
-use Rattle.std.proofs.Common.{◌≡◌, ℕ, ◌+◌, ◌≤◌, List, length, Bool, true, false, Some, Result, Ok, Err, refl, sym, ap, ◌∙◌, subst, arith, cond, inl, inr, ⊎_elim}
+use Rattle.std.proofs.Common.{◌≡◌, ℕ, ◌+◌, ◌≤◌, ◌++◌, List, length, Bool, true, false, Some, Result, Ok, Err, refl, sym, ap, ◌∙◌, subst, arith, cond, inl, inr, ⊎_elim}
 use Rattle.std.specs.Prelude.{IsTrue}
 use Rattle.me_bytes.specs.Bytes.{IsBytes}
 use Rattle.me_disk.specs.declared.depot.DepotFault.{DepotFault}
@@ -57,17 +57,18 @@ the_summary t n = record { changed = true; in_place = t; payload = n; findings =
 
 -- ---- a stop before the first call that changes something
 
-module _ (e : List EditItem) (n : ℕ) (a b : Disk) (reads : ReadsOnly a b) where
+module _ (e : List EditItem) (n : ℕ) (front : List ℕ) (a b : Disk) (reads : ReadsOnly a b) where
   leaves_it : (s : Stop) → ChangeStops e a b s → ChangeLeaves e a b s
   leaves_it stop.Depot h = λ o held bytes. let w = reads.written in omega (arith, w)
   leaves_it (stop.TooLarge size limit) h = reads
   leaves_it stop.Memory h = reads
   leaves_it stop.NoFile h = reads
+  leaves_it stop.FileThere h = reads
   leaves_it (stop.Damaged at) h = reads
   leaves_it (stop.NotSupported w) h = reads
   leaves_it (stop.RuleBroken b) h = reads
 
-  stops_here : (s : Stop) → ChangeStops e a b s → Changes e n a b (Err s)
+  stops_here : (s : Stop) → ChangeStops e a b s → Changes e n front a b (Err s)
   unfolding leaves_it
   stops_here s h = record {
     changes = λ o held bytes. tt;
@@ -78,9 +79,9 @@ module _ (e : List EditItem) (n : ℕ) (a b : Disk) (reads : ReadsOnly a b) wher
     again = tt;
   }
 
-  pub no_memory : (s : Stop) → s ≡ stop.Memory → Changes e n a b (Err s)
+  pub no_memory : (s : Stop) → s ≡ stop.Memory → Changes e n front a b (Err s)
   unfolding stops_here
-  no_memory s is = subst (λ (t : Stop). Changes e n a b (Err t)) (sym is) (stops_here stop.Memory tt)
+  no_memory s is = subst (λ (t : Stop). Changes e n front a b (Err t)) (sym is) (stops_here stop.Memory tt)
 
   plan_stops : (fault : PlanFault) → ((o : List ℕ) → Holds a o → IsBytes o → Declines (model_in o) o e fault)
       → (◌≡◌ {A = Result Plan PlanFault} (Err fault) (Err plan.Depot) → Rose a.faults b.faults) → ChangeStops e a b (stop_of_plan fault)
@@ -90,13 +91,13 @@ module _ (e : List EditItem) (n : ℕ) (a b : Disk) (reads : ReadsOnly a b) wher
 
   -- an edit that isn't planned
   pub not_planned : (fault : PlanFault) (s : Stop) → s ≡ stop_of_plan fault → ((o : List ℕ) → Holds a o → IsBytes o → Declines (model_in o) o e fault)
-      → (◌≡◌ {A = Result Plan PlanFault} (Err fault) (Err plan.Depot) → Rose a.faults b.faults) → Changes e n a b (Err s)
+      → (◌≡◌ {A = Result Plan PlanFault} (Err fault) (Err plan.Depot) → Rose a.faults b.faults) → Changes e n front a b (Err s)
   unfolding stops_here plan_stops
-  not_planned fault s is declines cause = subst (λ (t : Stop). Changes e n a b (Err t)) (sym is) (stops_here (stop_of_plan fault) (plan_stops fault declines cause))
+  not_planned fault s is declines cause = subst (λ (t : Stop). Changes e n front a b (Err t)) (sym is) (stops_here (stop_of_plan fault) (plan_stops fault declines cause))
 
 -- ---- the run of the plan
 
-module _ (e : List EditItem) (n : ℕ) (a b c : Disk) (p : Plan) (reads : ReadsOnly a b) (plans : (o : List ℕ) → Holds a o → IsBytes o → IsPlanOf (model_in o) o e p) where
+module _ (e : List EditItem) (n : ℕ) (front : List ℕ) (a b c : Disk) (p : Plan) (reads : ReadsOnly a b) (plans : (o : List ℕ) → Holds a o → IsBytes o → IsPlanOf (model_in o) o e p) where
   same : (o : List ℕ) → Holds a o → bytes_of b.slots.main ≡ o
   same o h = ap bytes_of reads.main ∙ h.bytes
 
@@ -112,9 +113,9 @@ module _ (e : List EditItem) (n : ℕ) (a b c : Disk) (p : Plan) (reads : ReadsO
       (λ i either o h bytes. ⊎_elim (λ old. inl (subst (λ (f : List ℕ). Settles (Some f) i) (same o h) old))
       (λ new. inr ((plans o h bytes).fits, subst (λ (f : List ℕ). Settles (Some f) i) (makes o h bytes) new)) either) runs.crash)
 
-  pub not_run : (fault : DepotFault) (s : Stop) → s ≡ stop.Depot → Runs (fresh p) (bytes_of b.slots.main) b c (Err fault) → Changes e n a c (Err s)
+  pub not_run : (fault : DepotFault) (s : Stop) → s ≡ stop.Depot → Runs (fresh p) (bytes_of b.slots.main) b c (Err fault) → Changes e n front a c (Err s)
   unfolding may
-  not_run fault s is runs = subst (λ (t : Stop). Changes e n a c (Err t)) (sym is) (record {
+  not_run fault s is runs = subst (λ (t : Stop). Changes e n front a c (Err t)) (sym is) (record {
     changes = λ o held bytes. tt;
     told = tt;
     stops = rose_sooner a.faults b.faults c.faults reads.faults runs.cause.failed;
@@ -129,7 +130,7 @@ module _ (e : List EditItem) (n : ℕ) (a b c : Disk) (p : Plan) (reads : ReadsO
   })
 
   pub changed : (x : Unit {0}) (f : Finished) (t : Bool) → IsLawful c → Runs (fresh p) (bytes_of b.slots.main) b c (Ok x) → t ≡ is_in_place p
-      → f.summary ≡ the_summary t n → f.text ≡ done_line (the_summary t n) → Changes e n a c (Ok f)
+      → f.summary ≡ the_summary t n → f.text ≡ front ++ done_line (the_summary t n) → Changes e n front a c (Ok f)
   unfolding may makes
   changed x f t lawful runs place summary text = record {
     changes = λ o held bytes.
@@ -141,7 +142,7 @@ module _ (e : List EditItem) (n : ℕ) (a b c : Disk) (p : Plan) (reads : ReadsO
           written = let exact = runs.written.exact in let all = bytes_are o e p plan.form in let none = none_yet p in let before = reads.written in omega (arith, exact, all, none, before);
           summary_is = summary ∙ ap (λ (u : Bool). the_summary u n) (place ∙ sym (place_is o e p plan.form));
         };
-    told = record { text = text ∙ ap done_line (sym summary); no_findings = ap (λ (s : Summary). s.findings) summary };
+    told = record { text = text ∙ ap (λ (x : Summary). front ++ done_line x) (sym summary); no_findings = ap (λ (s : Summary). s.findings) summary };
     stops = tt;
     leaves = tt;
     crash = may (Ok x) runs;

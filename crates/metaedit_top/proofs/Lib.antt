@@ -8,3 +8,8 @@ pub mod Sets
 pub mod Looks
 pub mod FileWord
 pub mod ShownOnce
+pub mod Carried
+pub mod Exports
+pub mod MadeWords
+pub mod Makes
+pub mod TableEdits

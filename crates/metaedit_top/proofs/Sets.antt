@@ -1,5 +1,5 @@
 -- The edit that is asked for, and its items that have an effect.
-use Rattle.std.proofs.Common.{◌≡◌, ℕ, ◌+◌, ◌≤◌, ◌<◌, List, [], ◌∷◌, length, Bool, true, false, not, ◌&&◌, Option, Some, None, Result, Ok, Err, sym, ap, ◌∙◌, subst, arith, cond, refl, inl, inr, ⊎_elim}
+use Rattle.std.proofs.Common.{◌≡◌, ℕ, ◌+◌, ◌≤◌, ◌<◌, List, [], ◌∷◌, ◌++◌, length, Bool, true, false, not, ◌&&◌, Option, Some, None, Result, Ok, Err, sym, ap, ◌∙◌, subst, arith, cond, refl, inl, inr, ⊎_elim}
 use Rattle.std.specs.Prelude.{IfErr, ◌==◌}
 use Rattle.std.proofs.lemmas.Bool.{eqb-true}
 use Rattle.me_bytes.specs.Bytes.{IsBytes}
@@ -40,7 +40,7 @@ use Rattle.metaedit_top.specs.Asked.{Accepts, AcceptsBy, AcceptsEdit, broken_by,
 use Rattle.metaedit_top.specs.Changed.{ChangeLeaves, ChangeStops, Changes, IsChanged, MayChange, changed_summary}
 use Rattle.metaedit_top.specs.Run.{HasTold, MayLeave}
 use Rattle.metaedit_top.specs.Stage.{ActLeaves, ActStops, Acts, HasActed, IsSettled}
-use Rattle.metaedit_top.specs.Told.{Fixes, ReportsBy, look_summary, summary_by}
+use Rattle.metaedit_top.specs.Told.{Fixes, ReportsBy, edit_summary, front_by, front_of, look_summary, summary, summary_by}
 use Rattle.metaedit_top.proofs.Acted.{alone_only, alone_on, stops_here}
 use Rattle.metaedit_top.proofs.Looks.{same_fields}
 use Rattle.metaedit_top.proofs.Rules.{base_fine, effective_fine}
@@ -90,15 +90,73 @@ module _ (o : List ℕ) (all e : List EditItem) (is : e ≡ effective (fields_of
         ∙ ap (λ (ps : List Patch). cond (has_room o e) (bytes_in_place ps) (length (new_file o all))) (sym same_edit.same_patches)
         ∙ ap (λ (n : List ℕ). cond (has_room o e) (bytes_in_place ((model_in o).patches o e)) (length n)) (sym same_edit.same_file)
 
--- ---- what is done, where the edit that is asked for is `set`
+-- ---- what holds of each command that edits
 
-module _ (q : Request) (set_asked : q.command ≡ command.Set) (stood : Bool) (a b : Disk) (m : FileMap) (of : IsRead a m) (reads : ReadsOnly a b) where
-  reads_it : reads_file q.command ≡ true
-  reads_it = ap reads_file set_asked
+not_edits : {A : Type 0} → false ≡ true → A
+not_edits e = absurd cc
 
-  edits_it : edits_file q.command ≡ true
-  edits_it = ap edits_file set_asked
+accepts_by : (c : Command) (rules : RuleSet) (e : List EditItem) (o : List ℕ) → edits_file c ≡ true → AcceptsEdit rules e o → AcceptsBy c rules e o
+accepts_by command.Set rules e o is h = h
+accepts_by command.Apply rules e o is h = h
+accepts_by command.Make rules e o is h = h
+accepts_by command.Recover rules e o is h = not_edits is
+accepts_by command.Show rules e o is h = not_edits is
+accepts_by command.Validate rules e o is h = not_edits is
+accepts_by command.Md5 rules e o is h = not_edits is
+accepts_by command.Export rules e o is h = not_edits is
 
+reads_by : (c : Command) → edits_file c ≡ true → reads_file c ≡ true
+reads_by command.Set is = refl
+reads_by command.Apply is = refl
+reads_by command.Make is = refl
+reads_by command.Recover is = not_edits is
+reads_by command.Show is = refl
+reads_by command.Validate is = refl
+reads_by command.Md5 is = refl
+reads_by command.Export is = refl
+
+told_by : (c : Command) (q : Request) (o : List ℕ) → edits_file c ≡ true → summary_by c q o ≡ edit_summary o q.edit
+told_by command.Set q o is = refl
+told_by command.Apply q o is = refl
+told_by command.Make q o is = refl
+told_by command.Recover q o is = not_edits is
+told_by command.Show q o is = not_edits is
+told_by command.Validate q o is = not_edits is
+told_by command.Md5 q o is = not_edits is
+told_by command.Export q o is = not_edits is
+
+fixes_by : (c : Command) (s : Summary) → edits_file c ≡ true → s.findings ≡ 0 → Fixes c s
+fixes_by command.Set s is h = h
+fixes_by command.Apply s is h = h
+fixes_by command.Make s is h = h
+fixes_by command.Recover s is h = not_edits is
+fixes_by command.Show s is h = not_edits is
+fixes_by command.Validate s is h = not_edits is
+fixes_by command.Md5 s is h = not_edits is
+fixes_by command.Export s is h = not_edits is
+
+-- an edit reads the file
+pub edit_reads : (q : Request) → edits_file q.command ≡ true → reads_file q.command ≡ true
+unfolding reads_by
+edit_reads q is = reads_by q.command is
+
+-- the line behind what is told before an edit is the report
+reports_by : (c : Command) (q : Request) (o : List ℕ) (stood : Bool) (text : List ℕ) → edits_file c ≡ true → q.command ≡ c
+    → text ≡ front_by c q o ++ done_line (summary q o) → ReportsBy c q o stood text
+reports_by command.Set q o stood text is same h = h
+reports_by command.Apply q o stood text is same h = h
+reports_by command.Make q o stood text is same h =
+    h ∙ ap (λ (x : Command). front_by x q o ++ done_line (summary q o)) (sym same)
+reports_by command.Recover q o stood text is same h = not_edits is
+reports_by command.Show q o stood text is same h = not_edits is
+reports_by command.Validate q o stood text is same h = not_edits is
+reports_by command.Md5 q o stood text is same h = not_edits is
+reports_by command.Export q o stood text is same h = not_edits is
+
+-- ---- what is done, where an edit is asked for; its line is told behind a text
+
+module _ (q : Request) (edits_it : edits_file q.command ≡ true) (front : List ℕ) (stood : Bool) (a b : Disk)
+    (told_first : (o : List ℕ) → Holds a o → front ≡ front_of q o) (m : FileMap) (of : IsRead a m) (reads : ReadsOnly a b) where
   made_is : (o : List ℕ) → new_of q o ≡ new_file o q.edit
   made_is o = ap (λ (t : Bool). cond t (new_file o q.edit) o) edits_it
 
@@ -106,19 +164,25 @@ module _ (q : Request) (set_asked : q.command ≡ command.Set) (stood : Bool) (a
   wrote_is o = ap (λ (t : Bool). cond t (edit_bytes o q.edit) 0) edits_it
 
   accepted : (o : List ℕ) → AcceptsEdit q.rules q.edit o → Accepts q o
-  accepted o h = subst (λ (c : Command). AcceptsBy c q.rules q.edit o) (sym set_asked) h
+  unfolding accepts_by
+  accepted o h = accepts_by q.command q.rules q.edit o edits_it h
 
-  told : (o : List ℕ) (f : Finished) → f.summary ≡ summary_by command.Set q o → f.text ≡ done_line f.summary → HasTold q o stood f
-  told o f summary text =
-      let same = summary ∙ sym (ap (λ (c : Command). summary_by c q o) set_asked) in
-      record { summary_is = same; report_is = subst (λ (c : Command). ReportsBy c q o stood f.text) (sym set_asked) (text ∙ ap done_line same) }
+  told : (o : List ℕ) (f : Finished) → Holds a o → f.summary ≡ edit_summary o q.edit → f.text ≡ front ++ done_line f.summary → HasTold q o stood f
+  unfolding told_by reports_by
+  told o f held summary text =
+      let same : f.summary ≡ summary_by q.command q o = summary ∙ sym (told_by q.command q o edits_it) in
+      record {
+        summary_is = same;
+        report_is = reports_by q.command q o stood f.text edits_it refl
+            (text ∙ ap (λ (x : List ℕ). x ++ done_line f.summary) (told_first o held) ∙ ap (λ (s : Summary). front_of q o ++ done_line s) same);
+      }
 
   fixes : (f : Finished) → f.summary.findings ≡ 0 → Fixes q.command f.summary
-  fixes f h = subst (λ (c : Command). Fixes c f.summary) (sym set_asked) h
+  unfolding fixes_by
+  fixes f h = fixes_by q.command f.summary edits_it h
 
   -- a rule is broken
   pub rule_stops : (found : Broken) → Some found ≡ broken (kind_in m) (streams_in m) (fields_in m) q.edit q.rules → Acts q stood a b (Err (stop.RuleBroken found))
-  unfolding edits_it
   rule_stops found is =
       stops_here q stood a b reads (stop.RuleBroken found)
       (edits_it, λ o held. record { supported = (of.tells o held).supported; broken = broken_told o m q.edit q.rules (Some found) (of.tells o held) is })
@@ -150,7 +214,7 @@ module _ (q : Request) (set_asked : q.command ≡ command.Set) (stood : Bool) (a
 
     -- no item has an effect
     pub idle_acts : IsLawful b → IsSettled a → length e ≡ 0 → (f : Finished) → f.summary ≡ look_summary (told_in m).payload 0
-        → f.text ≡ done_line (look_summary (told_in m).payload 0) → Acts q stood a b (Ok f)
+        → f.text ≡ front ++ done_line (look_summary (told_in m).payload 0) → Acts q stood a b (Ok f)
     unfolding accepts_small edited_small is_in made_is wrote_is told fixes
     idle_acts lawful settled none f summary text = record {
       acts = λ o held bytes.
@@ -166,7 +230,8 @@ module _ (q : Request) (set_asked : q.command ≡ command.Set) (stood : Bool) (a
               edited = λ edits. edited_small o held bytes idle.1;
               written = let w = reads.written in let r = wrote_is o in omega (arith, w, r, nothing);
             };
-            told = told o f (summary ∙ ap (λ (n : ℕ). look_summary n 0) (of.tells o held).payload ∙ sym (ap (λ (t : Bool). idle_by t o) still)) (text ∙ ap done_line (sym summary));
+            told = told o f held (summary ∙ ap (λ (n : ℕ). look_summary n 0) (of.tells o held).payload ∙ sym (ap (λ (t : Bool). idle_by t o) still))
+                (text ∙ ap (λ (s : Summary). front ++ done_line s) (sym summary));
           };
       fixes = fixes f (ap (λ (s : Summary). s.findings) summary);
       stops = tt;
@@ -180,7 +245,7 @@ module _ (q : Request) (set_asked : q.command ≡ command.Set) (stood : Bool) (a
 
     -- an item has an effect
     module _ (c : Disk) (some : 0 < length e) where
-      acts_so : (o : List ℕ) (f : Finished) → Holds a o → IsBytes o → f.text ≡ done_line f.summary → IsChanged o e (told_in m).payload b c f → HasActed q o stood a c f
+      acts_so : (o : List ℕ) (f : Finished) → Holds a o → IsBytes o → f.text ≡ front ++ done_line f.summary → IsChanged o e (told_in m).payload b c f → HasActed q o stood a c f
       unfolding accepts_small edited_small is_in made_is wrote_is told same_edit does_change fits_same bytes_same
       acts_so o f held bytes line done =
           let same = same_edit o q.edit e (is_in o held) in
@@ -193,7 +258,7 @@ module _ (q : Request) (set_asked : q.command ≡ command.Set) (stood : Bool) (a
               edited = λ edits. edited_small o held bytes small;
               written = let w = done.written in let r = reads.written in let k = wrote_is o in let n = bytes_same o q.edit e (is_in o held) some in omega (arith, w, r, k, n);
             };
-            told = told o f
+            told = told o f held
                 (done.summary_is ∙ ap (λ (n : ℕ). by true (has_room o e) n) (of.tells o held).payload
                 ∙ ap (λ (u : Bool). by true u (payload o)) (sym (fits_same o q.edit e (is_in o held) some))
                 ∙ ap (λ (t : Bool). by t (fits o q.edit) (payload o)) (sym (does_change o q.edit e (is_in o held) some))) line;
@@ -203,7 +268,7 @@ module _ (q : Request) (set_asked : q.command ≡ command.Set) (stood : Bool) (a
           by t u n = record { changed = t; in_place = u; payload = n; findings = 0 }
 
       stops_so : (s : Stop) → ChangeStops e b c s → ActStops q a c s
-      unfolding is_in rules_kept edits_it same_edit
+      unfolding is_in rules_kept same_edit
       stops_so stop.Depot h = rose_sooner a.faults b.faults c.faults reads.faults h
       stops_so (stop.TooLarge size limit) h = (
         edits_it,
@@ -215,6 +280,7 @@ module _ (q : Request) (set_asked : q.command ≡ command.Set) (stood : Bool) (a
       )
       stops_so stop.Memory h = tt
       stops_so stop.NoFile h = absurd h
+      stops_so stop.FileThere h = absurd h
       stops_so (stop.Damaged at) h = absurd h
       stops_so (stop.NotSupported w) h = absurd h
       stops_so (stop.RuleBroken w) h = absurd h
@@ -230,6 +296,7 @@ module _ (q : Request) (set_asked : q.command ≡ command.Set) (stood : Bool) (a
       leaves_so (stop.TooLarge size limit) h = ReadsOnly-trans a b c reads h
       leaves_so stop.Memory h = ReadsOnly-trans a b c reads h
       leaves_so stop.NoFile h = ReadsOnly-trans a b c reads h
+      leaves_so stop.FileThere h = ReadsOnly-trans a b c reads h
       leaves_so (stop.Damaged at) h = ReadsOnly-trans a b c reads h
       leaves_so (stop.NotSupported w) h = ReadsOnly-trans a b c reads h
       leaves_so (stop.RuleBroken w) h = ReadsOnly-trans a b c reads h
@@ -247,7 +314,7 @@ module _ (q : Request) (set_asked : q.command ≡ command.Set) (stood : Bool) (a
             settles = subst (λ (f : List ℕ). Settles (Some f) i) (same.same_file ∙ sym (made_is o)) new.1;
           })) (may o (holds_on a b o reads held) bytes)) crash)
 
-      pub change_acts : (r : Result Finished Stop) → Changes e (told_in m).payload b c r → Acts q stood a c r
+      pub change_acts : (r : Result Finished Stop) → Changes e (told_in m).payload front b c r → Acts q stood a c r
       unfolding acts_so stops_so leaves_so may_so fixes
       change_acts (Ok f) h = record {
         acts = λ o held bytes. acts_so o f held bytes h.told.text (h.changes o (holds_on a b o reads held) bytes);

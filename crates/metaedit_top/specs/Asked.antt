@@ -95,6 +95,9 @@ reads_file command.Set = true
 reads_file command.Show = true
 reads_file command.Validate = true
 reads_file command.Md5 = true
+reads_file command.Export = true
+reads_file command.Apply = true
+reads_file command.Make = true
 
 -- whether it edits the file
 abbrev pub edits_file : Command → Bool
@@ -103,6 +106,9 @@ edits_file command.Recover = false
 edits_file command.Show = false
 edits_file command.Validate = false
 edits_file command.Md5 = false
+edits_file command.Export = false
+edits_file command.Apply = true
+edits_file command.Make = true
 
 -- nothing stands against a command on a file
 abbrev pub AcceptsBy : Command → RuleSet → List EditItem → List ℕ → Type 0
@@ -111,6 +117,9 @@ AcceptsBy command.Recover rules e o = ⊤
 AcceptsBy command.Show rules e o = why_in o ≡ None
 AcceptsBy command.Validate rules e o = why_in o ≡ None
 AcceptsBy command.Md5 rules e o = why_in o ≡ None
+AcceptsBy command.Export rules e o = why_in o ≡ None
+AcceptsBy command.Apply rules e o = AcceptsEdit rules e o
+AcceptsBy command.Make rules e o = AcceptsEdit rules e o
 
 -- nothing stands against a request on a file
 abbrev pub Accepts : Request → List ℕ → Type 0

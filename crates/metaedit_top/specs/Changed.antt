@@ -1,5 +1,5 @@
 -- The edit of a file that stands alone, where each item has an effect and no rule is broken.
-use Rattle.std.specs.Prelude.{◌≡◌, ◌⊎◌, ◌≤◌, ℕ, ◌+◌, Bool, true, false, List, Some, None, IfOk, IfErr, OnOk, Result}
+use Rattle.std.specs.Prelude.{◌≡◌, ◌⊎◌, ◌≤◌, ℕ, ◌+◌, ◌++◌, Bool, true, false, List, Some, None, IfOk, IfErr, OnOk, Result}
 use Rattle.me_bytes.specs.Bytes.{IsBytes}
 use Rattle.me_disk.specs.Causes.{Rose}
 use Rattle.me_disk.specs.Disk.{Disk, Image, Leaves, Only, read_as}
@@ -26,9 +26,9 @@ is_in_place (Rewrite new moves segments) = false
 abbrev pub changed_summary : List ℕ → List EditItem → ℕ → Summary
 changed_summary o e n = record { changed = true; in_place = has_room o e; payload = n; findings = 0 }
 
--- the line of a summary, and nothing found
-pub record IsLine (f : Finished) : Type 0 where
-  pub text : f.text ≡ done_line f.summary
+-- the line of a summary behind a text, and nothing found
+pub record IsLine (front : List ℕ) (f : Finished) : Type 0 where
+  pub text : f.text ≡ front ++ done_line f.summary
   pub no_findings : f.summary.findings ≡ 0
 
 -- The new file stands alone, and this is told.
@@ -45,6 +45,7 @@ ChangeStops e old new stop.Depot = Rose old.faults new.faults
 ChangeStops e old new (stop.TooLarge size limit) = OnHeld old (λ o. IsBytes o → too_large o e ≡ Some (limited limit size))
 ChangeStops e old new stop.Memory = Unit {0}
 ChangeStops e old new stop.NoFile = ⊥
+ChangeStops e old new stop.FileThere = ⊥
 ChangeStops e old new (stop.Damaged at) = ⊥
 ChangeStops e old new (stop.NotSupported w) = ⊥
 ChangeStops e old new (stop.RuleBroken b) = ⊥
@@ -58,10 +59,10 @@ ChangeLeaves e old new _ = ReadsOnly old new
 abbrev pub MayChange : List EditItem → Disk → Image → Type 0
 MayChange e d i = OnHeld d (λ o. IsBytes o → Settles (Some o) i ⊎ ((too_large o e ≡ None) × Settles (Some (new_file o e)) i))
 
--- What the edit answers and leaves; the sound of the file has so many bytes.
-pub record Changes (e : List EditItem) (n : ℕ) (old new : Disk) (r : Result Finished Stop) : Type 0 where
+-- What the edit answers and leaves; the sound of the file has so many bytes, and its line is told behind a text.
+pub record Changes (e : List EditItem) (n : ℕ) (front : List ℕ) (old new : Disk) (r : Result Finished Stop) : Type 0 where
   pub changes : OnHeld old (λ o. IsBytes o → IfOk r (IsChanged o e n old new))
-  pub told : IfOk r IsLine
+  pub told : IfOk r (IsLine front)
   pub stops : IfErr r (ChangeStops e old new)
   pub leaves : IfErr r (ChangeLeaves e old new)
   pub crash : Leaves (MayChange e old) old new

@@ -1,5 +1,5 @@
 -- A command on a file that stands alone: what it leaves and tells, and why it stops.
-use Rattle.std.specs.Prelude.{◌≡◌, ℕ, ◌+◌, ◌≤◌, Bool, true, IsTrue, IfOk, IfErr, OnOk, List, Some, None, Result, Ok, Err}
+use Rattle.std.specs.Prelude.{◌≡◌, ℕ, ◌+◌, ◌≤◌, nat_lt, if◌then◌else◌, Bool, true, IsTrue, IfOk, IfErr, OnOk, List, Some, None, Result, Ok, Err}
 use Rattle.me_bytes.specs.Bytes.{IsBytes}
 use Rattle.me_disk.specs.Causes.{Rose}
 use Rattle.me_disk.specs.Disk.{Disk, Leaves, Only, bytes_of, read_as}
@@ -40,6 +40,7 @@ pub record HasActed (q : Request) (o : List ℕ) (stood : Bool) (old new : Disk)
 abbrev pub ActStops : Request → Disk → Disk → Stop → Type 0
 ActStops q old new stop.Depot = Rose old.faults new.faults
 ActStops q old new stop.NoFile = ⊥
+ActStops q old new stop.FileThere = ⊥
 ActStops q old new (stop.Damaged at) = ⊥
 ActStops q old new (stop.NotSupported w) = (reads_file q.command ≡ true) × OnHeld old (λ o. why_in o ≡ Some w)
 ActStops q old new (stop.RuleBroken b) = (edits_file q.command ≡ true) × OnHeld old (λ o. IsRefused q o b)
@@ -85,3 +86,10 @@ abbrev pub stop_of_recovery : RecoverFault → Stop
 stop_of_recovery recover.NoFile = stop.NoFile
 stop_of_recovery (recover.Damaged at) = stop.Damaged at
 stop_of_recovery recover.Depot = stop.Depot
+
+-- ---- want of memory
+
+-- the stop that is told, by the device's counts of faults before and after a run: a want of memory only where none rose
+abbrev pub counted : ℕ → ℕ → Stop → Stop
+counted before after stop.Memory = if nat_lt before after then stop.Depot else stop.Memory
+counted before after s = s

@@ -1,5 +1,5 @@
 // The edit of a file that stands alone, where each item has an effect and no rule is broken.
-ghost use Rattle.std.specs.Prelude.{◌≡◌, IsTrue, IfOk};
+ghost use Rattle.std.specs.Prelude.{◌≡◌, ◌++◌, IsTrue, IfOk};
 ghost use Rattle.me_disk.specs.Disk.{bytes_of};
 ghost use Rattle.me_report.specs.Done.{done_line as line_of};
 ghost use Rattle.edit_journal.specs.Settled.{StandsAlone};
@@ -38,13 +38,17 @@ fn is_in_place(plan: &Plan) -> bool
     }
 }
 
-/// What is told of an edit that is done.
-pub(crate) fn tell_edit(alloc: Global, summary: Summary) -> Result<Finished, NoMemory>
+/// What is told of an edit that is done: its line, behind a text.
+pub(crate) fn tell_edit(alloc: Global, front: &[u8], summary: Summary) -> Result<Finished, NoMemory>
     ensures summary { IfOk result (λ f. f.summary ≡ summary) }
-    ensures text { IfOk result (λ f. f.text ≡ line_of summary) }
+    ensures text { IfOk result (λ f. f.text ≡ front.now ++ line_of summary) }
 {
-    let text = Bytes::new(alloc, done_line(&summary).as_slice())?;
-    Ok(Finished { summary, text })
+    let mut text = Vec::from_slice(alloc, front)?;
+    text.extend_from_slice(done_line(&summary).as_slice())?;
+    Ok(Finished {
+        summary,
+        text: Bytes::of(text),
+    })
 }
 
 // Carries a plan out on the file that stands alone.
@@ -57,17 +61,18 @@ fn carry_out<D: Depot>(depot: &mut D, swap: Swap) -> Result<(), DepotFault>
     swap.run(depot)
 }
 
-/// Edits a file that stands alone, by its map.
+/// Edits a file that stands alone, by its map. The line is told behind a text.
 pub(crate) fn change<D: Depot>(
     alloc: Global,
     depot: &mut D,
     map: &FileMap,
     edit: &Edit,
+    front: &[u8],
 ) -> Result<Finished, Stop>
     requires settled { IsSettled (D.disk depot.old) }
     requires read { IsRead (D.disk depot.old) map.now }
     requires ready { IsReady (kind_in map.now) (streams_in map.now) (fields_in map.now) edit.now }
-    ensures { Changes edit.now (told_in map.now).payload (D.disk depot.old) (D.disk depot.new) result }
+    ensures { Changes edit.now (told_in map.now).payload front.now (D.disk depot.old) (D.disk depot.new) result }
 {
     let plan = plan(alloc, depot, map, edit)?;
     let summary = Summary {
@@ -76,7 +81,7 @@ pub(crate) fn change<D: Depot>(
         payload: map.payload(),
         findings: 0,
     };
-    let finished = tell_edit(alloc, summary)?;
+    let finished = tell_edit(alloc, front, summary)?;
     let swap = Swap::new(alloc, plan)?;
     carry_out(depot, swap)?;
     Ok(finished)

@@ -4,7 +4,12 @@
 //! It knows no kind of files, and but for `run_program`, which makes the devices, no device.
 #![tactic(auto)]
 
+mod carry;
 mod change;
+mod export;
+mod format;
+mod make;
+mod making;
 mod outcome;
 mod program;
 mod run;
@@ -12,6 +17,7 @@ mod set;
 mod shown;
 mod started;
 mod stops;
+mod table;
 mod tell;
 #[cfg(test)]
 mod tests;
@@ -20,6 +26,8 @@ mod top;
 mod word;
 mod words;
 
+pub use core_table::TableFault;
+pub use format::TableFormat;
 pub use me_report::Summary;
 pub use outcome::{Outcome, UsageFault};
 pub use part_tree::Why;

@@ -1,5 +1,6 @@
 // What a run answers.
 
+use core_table::TableFault;
 use me_report::Summary;
 use part_tree::{Broken, Bytes, Why};
 
@@ -12,6 +13,8 @@ pub enum UsageFault {
     UnknownCommand,
     /// The words behind the command aren't those that it takes.
     Words,
+    /// No file of that kind and number is made.
+    Value,
     /// Item n, from 1, has no `=`, or nothing before it.
     Item { n: u64 },
     /// What stands before the `=` of item n names no field.
@@ -27,10 +30,16 @@ pub enum Outcome {
     Done(Summary),
     /// The words are refused.
     Usage(UsageFault),
+    /// The table couldn't be read.
+    TableReadFault,
+    /// The table is refused.
+    TableFault(TableFault),
     /// The device failed; it has now counted so many faults.
     DepotFault { faults: u64 },
     /// There is no file.
     NoFile,
+    /// A file is there that was to be made.
+    FileThere,
     /// A journal stands beside the file, and it is damaged at this place.
     JournalDamaged { at: u64 },
     /// The file is refused.
@@ -57,6 +66,7 @@ pub(crate) struct Finished {
 pub(crate) enum Stop {
     Depot,
     NoFile,
+    FileThere,
     Damaged { at: u64 },
     NotSupported(Why),
     RuleBroken(Broken),

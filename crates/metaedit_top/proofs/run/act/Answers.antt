@@ -12,3 +12,6 @@ returns-in-Validate g c = c.validate.ensures c.args.redone
 
 pub returns-in-Md5 : goal.returns-in-Md5
 returns-in-Md5 g c = c.md5.ensures c.args.redone
+
+pub returns-in-Export : goal.returns-in-Export
+returns-in-Export g c = c.export.ensures c.args.redone

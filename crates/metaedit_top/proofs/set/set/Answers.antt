@@ -1,4 +1,4 @@
-use Rattle.std.proofs.Common.{rules, ◌≡◌, List, length, false, Err, Some, None, refl, sym, subst, ap, ◌∙◌}
+use Rattle.std.proofs.Common.{rules, ◌≡◌, ◌++◌, List, length, false, Err, Some, None, refl, sym, subst, ap, ◌∙◌}
 use Rattle.std.specs.Prelude.{◌==◌}
 use Rattle.part_tree.specs.declared.field.EditItem.{EditItem}
 use Rattle.part_tree.specs.declared.fields.Entry.{Entry}
@@ -9,11 +9,11 @@ use Rattle.me_disk.proofs.Runs.{ReadsOnly-trans}
 use Rattle.me_report.specs.Done.{done_line}
 use Rattle.edit_planner.specs.Plan.{told_in}
 use Rattle.metaedit_top.specs.declared.outcome.Stop.TheVariants as stop
-use Rattle.metaedit_top.specs.Stage.{Acts}
+use Rattle.metaedit_top.specs.Stage.{Acts, stop_of_read}
 use Rattle.metaedit_top.specs.Told.{look_summary}
-use Rattle.metaedit_top.proofs.Acted.{no_memory}
+use Rattle.metaedit_top.proofs.Acted.{no_memory, not_read}
 use Rattle.metaedit_top.proofs.Looks.{still_read}
-use Rattle.metaedit_top.proofs.Sets.{broken_in, rule_stops, ready, idle_acts, change_acts, is_none, is_some}
+use Rattle.metaedit_top.proofs.Sets.{broken_in, edit_reads, rule_stops, ready, idle_acts, change_acts, is_none, is_some}
 use Rattle.metaedit_top.proofs.set.set.Goals as goal
 
 pub first_broken-requires : goal.first_broken-requires
@@ -25,7 +25,7 @@ effective-requires g c = subst (λ (es : List Entry). IsLawful (values es)) (sym
 pub returns-in-Some : goal.returns-in-Some
 returns-in-Some g c = λ stood.
     let m = c.in_ok-map.map in
-    rule_stops c.args.request.now c.requires.command stood (g.D.Depot.disk c.args.depot.now) (g.D.Depot.disk c.read.new.depot) m c.in_ok-map.ensures.tells c.in_ok-map.ensures.reads c.in-Some.broken
+    rule_stops c.args.request.now c.requires.command c.args.front.now stood (g.D.Depot.disk c.args.depot.now) (g.D.Depot.disk c.read.new.depot) c.requires.front m c.in_ok-map.ensures.tells c.in_ok-map.ensures.reads c.in-Some.broken
     (broken_in m c.kind.result c.streams.result c.fields.result.now c.args.request.now.edit c.args.request.now.rules (Some c.in-Some.broken) c.kind.ensures c.streams.ensures c.fields.ensures c.in-Some.ensures)
 
 pub returns-in_err-edit : goal.returns-in_err-edit
@@ -49,11 +49,11 @@ returns-then-is_empty g c = λ stood.
     let m = c.in_ok-map.map in
     let e = c.in_ok-edit.edit in
     let told = ap (λ n. look_summary n 0) c.payload.ensures in
-    idle_acts c.args.request.now c.requires.command stood a b m c.in_ok-map.ensures.tells c.in_ok-map.ensures.reads e
+    idle_acts c.args.request.now c.requires.command c.args.front.now stood a b c.requires.front m c.in_ok-map.ensures.tells c.in_ok-map.ensures.reads e
     (broken_in m c.kind.result c.streams.result c.fields.result.now c.args.request.now.edit c.args.request.now.rules None c.kind.ensures c.streams.ensures c.fields.ensures c.in-None.ensures)
     (c.in_ok-edit.ensures ∙ ap (λ es. effective (values es) c.args.request.now.edit) c.fields-2.ensures)
     (g.met.D.Depot.lawful c.read.new.depot) c.requires.settled (is_none e (c.if-is_empty.ensures ∙ ap (λ (es : List EditItem). length es == 0) c.items.ensures.items))
-    c.in_ok-tell_edit.field-0 (c.in_ok-tell_edit.ensures.summary ∙ told) (c.in_ok-tell_edit.ensures.text ∙ ap done_line told)
+    c.in_ok-tell_edit.field-0 (c.in_ok-tell_edit.ensures.summary ∙ told) (c.in_ok-tell_edit.ensures.text ∙ ap (λ s. c.args.front.now ++ done_line s) told)
 
 pub change-requires-clause-read : goal.change-requires-clause-read
 change-requires-clause-read g c = still_read (g.D.Depot.disk c.args.depot.now) (g.D.Depot.disk c.read.new.depot) c.in_ok-map.map c.in_ok-map.ensures.reads c.in_ok-map.ensures.tells
@@ -64,7 +64,7 @@ change-requires-clause-ready g c =
     let b = g.D.Depot.disk c.read.new.depot in
     let m = c.in_ok-map.map in
     let e = c.in_ok-edit.edit in
-    ready c.args.request.now c.requires.command false a b m c.in_ok-map.ensures.tells c.in_ok-map.ensures.reads e
+    ready c.args.request.now c.requires.command c.args.front.now false a b c.requires.front m c.in_ok-map.ensures.tells c.in_ok-map.ensures.reads e
     (broken_in m c.kind.result c.streams.result c.fields.result.now c.args.request.now.edit c.args.request.now.rules None c.kind.ensures c.streams.ensures c.fields.ensures c.in-None.ensures)
     (c.in_ok-edit.ensures ∙ ap (λ es. effective (values es) c.args.request.now.edit) c.fields-2.ensures)
     (is_some e (c.if-is_empty.ensures ∙ ap (λ (es : List EditItem). length es == 0) c.items.ensures.items))
@@ -76,7 +76,17 @@ returns g c = λ stood.
     let d = g.D.Depot.disk c.change.new.depot in
     let m = c.in_ok-map.map in
     let e = c.in_ok-edit.edit in
-    change_acts c.args.request.now c.requires.command stood a b m c.in_ok-map.ensures.tells c.in_ok-map.ensures.reads e
+    change_acts c.args.request.now c.requires.command c.args.front.now stood a b c.requires.front m c.in_ok-map.ensures.tells c.in_ok-map.ensures.reads e
     (broken_in m c.kind.result c.streams.result c.fields.result.now c.args.request.now.edit c.args.request.now.rules None c.kind.ensures c.streams.ensures c.fields.ensures c.in-None.ensures)
     (c.in_ok-edit.ensures ∙ ap (λ es. effective (values es) c.args.request.now.edit) c.fields-2.ensures)
     d (is_some e (c.if-is_empty.ensures ∙ ap (λ (es : List EditItem). length es == 0) c.items.ensures.items)) c.change.result c.change.ensures
+
+pub returns-in_err-map : goal.returns-in_err-map
+returns-in_err-map g c = λ stood.
+    let q = c.args.request.now in
+    let a = g.D.Depot.disk c.args.depot.now in
+    let b = g.D.Depot.disk c.read.new.depot in
+    let fault = c.in_err-map.field-0.0 in
+    let h = c.in_err-map.ensures in
+    let same : c.from_residual.result ≡ Err (stop_of_read fault) = search rules in
+    subst (Acts q stood a b) (sym same) (not_read q stood a b h.reads fault (stop_of_read fault) refl (edit_reads q c.requires.command) h.file h.cause)
