@@ -2,7 +2,7 @@
 _metaedit() {
     local commands='set recover'
     local with_rules=' set '
-    commands="$commands show validate md5"
+    commands="$commands show validate md5 batch"
     with_rules=' set validate '
     local rules='base ebu info fadgi'
     local fields='Description= Originator= OriginatorReference= OriginationDate= OriginationTime= TimeReference= UMID=
@@ -15,6 +15,16 @@ _metaedit() {
     if [ "$COMP_CWORD" -ge 4 ] && [ "${COMP_WORDS[3]}" = --rules ] &&
         { [ "$COMP_CWORD" = 4 ] || { [ "$COMP_CWORD" = 5 ] && [ "${COMP_WORDS[4]}" = '=' ]; }; }; then
         COMPREPLY=($(compgen -W "$rules" -- "${word#=}"))
+        return
+    fi
+    if [ "$command" = batch ] && [ "$COMP_CWORD" -ge 2 ]; then
+        if [ "$COMP_CWORD" = 2 ]; then
+            compopt -o nospace 2>/dev/null
+            COMPREPLY=($(compgen -W "$fields" -- "$word"))
+        elif [ "$COMP_CWORD" -ge 5 ]; then # behind the words that `NAME=VALUE` is split into
+            compopt -o filenames 2>/dev/null
+            COMPREPLY=($(compgen -f -- "$word"))
+        fi
         return
     fi
     case $COMP_CWORD in

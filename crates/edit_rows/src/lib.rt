@@ -2,6 +2,7 @@
 //! stopped after one of its calls, or within it, and then recovered.
 #![tactic(auto)]
 
+mod batches;
 mod files;
 mod rows;
 mod runs;
@@ -10,6 +11,7 @@ mod stops;
 #[cfg(test)]
 mod tests;
 
+pub use batches::{BatchRan, batch_told, depots_of};
 pub use files::{
     CHECKED, DATED, EMPTY, EMPTY_TITLED, JOURNAL, LARGE, LARGE_TITLED, LOUD, NUMBERED, ODD,
     ODD_TITLED, PLAIN, SHORT, TITLED, TITLES, VERSION_AT, described, with_bext,

@@ -1,4 +1,5 @@
 // Worked runs, by what each shows.
+use crate::batches::{batch_told, depots_of};
 use crate::files::{
     CHECKED, DATED, EMPTY, EMPTY_TITLED, JOURNAL, LARGE, LARGE_TITLED, LOUD, NUMBERED, ODD,
     ODD_TITLED, PLAIN, SHORT, TITLED, TITLES, VERSION_AT, described, with_bext,
@@ -11,7 +12,7 @@ use crate::sparse::{
 };
 use crate::stops::{NO_EDIT, RECOVER, calls_of, plain, survives, survives_twice, tells_the_fault};
 use me_disk::FailAt;
-use metaedit_top::{Outcome, Summary, UsageFault, Why};
+use metaedit_top::{BatchOutcome, FileEnd, Outcome, Summary, UsageFault, Why, batch_code, batch_line};
 use part_tree::{BextField, Broken, FieldName, FourCc};
 use std::process::Abort;
 use std::test::Fail;
@@ -526,5 +527,43 @@ fn a_size_that_32_bits_just_tell_stays_there(rt: HostRuntime) -> Result<(), Fail
     assert!(rt; has_len(&mut depot, 4_294_967_302));
     assert!(rt; shows(&mut depot, 0, b"RIFF\xfe\xff\xff\xffWAVEJUNK"));
     assert!(rt; shows(&mut depot, 4_294_967_278, HI));
+    Ok(())
+}
+
+// Each of two files goes on after four rounds, and is settled as its new file then.
+#[test]
+fn a_batch_that_is_stopped_goes_on_by_recovery(rt: HostRuntime) -> Result<(), Fail> {
+    let alloc = rt.alloc();
+    let words = ["batch", "INAM=Hi", "f.wav", "g.wav"];
+    let mut depots = depots_of(alloc, &[Some(PLAIN), Some(PLAIN)])?;
+    let Some(ran) = batch_told(alloc, &words, &mut depots, Some(4))? else {
+        return Err(Fail::from("no batch"));
+    };
+    assert!(rt; batch_code(&ran.outcome) == 15);
+    assert!(rt; batch_line(alloc, &ran.outcome)?.as_slice() == b"refused 15 Stopped\n");
+    assert!(rt; ran.out.written().is_empty());
+    match ran.outcome {
+        BatchOutcome::Stopped { ends } => assert!(rt; ends.as_slice() == [None, None].as_slice()),
+        _ => assert!(rt; false),
+    }
+    while let Some(mut depot) = depots.pop() {
+        assert!(rt; holds(&depot, Some(PLAIN), Some(JOURNAL)));
+        let ran = run_told(alloc, RECOVER, &mut depot)?;
+        assert!(rt; holds(&depot, Some(TITLED), None));
+    }
+    Ok(())
+}
+
+#[test]
+fn files_of_a_batch_end_by_their_own_causes(rt: HostRuntime) -> Result<(), Fail> {
+    let alloc = rt.alloc();
+    let words = ["batch", "INAM=Hi", "f.wav", "g.wav", "h.wav"];
+    let mut depots = depots_of(alloc, &[Some(PLAIN), None, Some(TITLED)])?;
+    let Some(ran) = batch_told(alloc, &words, &mut depots, None)? else {
+        return Err(Fail::from("no batch"));
+    };
+    assert!(rt; batch_code(&ran.outcome) == 1);
+    let lines = b"f.wav done changed in-place essence 4\ng.wav refused 3 NoFile\nh.wav done unchanged essence 4\nfiles 3 done 2\n";
+    assert!(rt; ran.out.written() == lines);
     Ok(())
 }

@@ -3,8 +3,16 @@ pub mod Rules
 pub mod Acted
 pub mod Ran
 pub mod Tops
-pub mod Changes
+pub mod Prepared
 pub mod Sets
 pub mod Looks
 pub mod FileWord
 pub mod ShownOnce
+pub mod BatchParts
+pub mod Batched
+pub mod Readied
+pub mod Prints
+pub mod BatchRequests
+pub mod Batches
+pub mod Starts
+pub mod Rounded

@@ -6,3 +6,6 @@ pub mod Stage
 pub mod Text
 pub mod Changed
 pub mod Started
+pub mod BatchWords
+pub mod BatchText
+pub mod Batch

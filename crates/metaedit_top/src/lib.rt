@@ -4,6 +4,11 @@
 //! It knows no kind of files, and but for `run_program`, which makes the devices, no device.
 #![tactic(auto)]
 
+mod batch;
+mod batch_end;
+mod batch_program;
+mod batch_text;
+mod batch_words;
 mod change;
 mod outcome;
 mod program;
@@ -20,6 +25,11 @@ mod top;
 mod word;
 mod words;
 
+pub use batch::metaedit_batch;
+pub use batch_end::{BatchOutcome, FileEnd};
+pub use batch_program::finish_batch;
+pub use batch_text::{batch_code, batch_line};
+pub use batch_words::{batch_files, is_batch};
 pub use me_report::Summary;
 pub use outcome::{Outcome, UsageFault};
 pub use part_tree::Why;

@@ -1,5 +1,5 @@
 // What the program says of its runs.
-use crate::{Outcome, Summary, UsageFault, Why, code, line_of};
+use crate::{BatchOutcome, Outcome, Summary, UsageFault, Why, batch_line, code, line_of};
 use std::process::Abort;
 use std::test::Fail;
 
@@ -36,5 +36,8 @@ fn runs_are_told(rt: HostRuntime) -> Result<(), Fail> {
     let line = b"refused 8 TooLarge 4294967304 4294967295\n";
     check(&rt, &too_large, 8, line)?;
     let unprinted = Outcome::OutFault { edited: true };
-    check(&rt, &unprinted, 11, b"refused 11 OutFault true\n")
+    check(&rt, &unprinted, 11, b"refused 11 OutFault true\n")?;
+    let same = BatchOutcome::Usage(UsageFault::SameFile { n: 2 });
+    assert!(rt; batch_line(rt.alloc(), &same)?.as_slice() == b"refused 2 Usage SameFile 2\n");
+    Ok(())
 }

@@ -111,7 +111,7 @@ fn takes_rules(command: Command) -> bool
 }
 
 // Whether a word begins with `-`.
-fn is_dashed(word: &[u8]) -> bool
+pub(crate) fn is_dashed(word: &[u8]) -> bool
     ensures { result ≡ spec.is_dashed word.now }
 {
     match word {
@@ -121,7 +121,7 @@ fn is_dashed(word: &[u8]) -> bool
 }
 
 // Whether a word names a file.
-fn is_file(word: &[u8]) -> bool
+pub(crate) fn is_file(word: &[u8]) -> bool
     ensures { result ≡ spec.is_file word.now }
 {
     !word.is_empty() && !is_dashed(word)
@@ -236,7 +236,7 @@ fn read_parts(command: Command, words: &[Word]) -> Option<Parts<'_>>
 }
 
 // The place of the first `=`.
-fn find_equals(word: &[u8]) -> Option<usize>
+pub(crate) fn find_equals(word: &[u8]) -> Option<usize>
     ensures place { result ≡ position (λ b. b == 61) word.now }
     ensures small { IfSome result (λ k. k < length word.now) }
 {
@@ -318,7 +318,7 @@ fn collect_items(alloc: Global, words: &[Word]) -> Result<Collected, NoMemory>
 }
 
 // The edit that the words of the items give, or the first fault of them.
-fn read_edit(alloc: Global, words: &[Word]) -> Result<Edit, RequestFault>
+pub(crate) fn read_edit(alloc: Global, words: &[Word]) -> Result<Edit, RequestFault>
     ensures { ReadsEdit words.now result }
 {
     let Ok(Collected { items, stop }) = collect_items(alloc, words) else {

@@ -1,2 +1,3 @@
 pub mod Lows
 pub mod Runs
+pub mod Rounds

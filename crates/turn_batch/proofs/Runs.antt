@@ -14,14 +14,14 @@ use Rattle.file_swap.specs.declared.machine.Turn.TheVariants as turn
 use Rattle.file_swap.proofs.Ends.{HasWritten, run_leaves, written_next, written_most, written_least}
 use Rattle.turn_batch.specs.declared.member.BatchTurn.{BatchTurn}
 use Rattle.turn_batch.specs.declared.member.Member.{Member}
-use Rattle.turn_batch.specs.Members.{open_swap, is_open, some_open, is_more, told, OnSwap, IsReady, AllLow, Turned, TurnedBy, TurnedAt, ends}
+use Rattle.turn_batch.specs.Members.{open_swap, is_open, some_open, is_more, told, OnSwap, IsReady, AllLow, Turned, TurnedBy, TurnedAt, ends, fails}
 use Rattle.turn_batch.specs.Schedules.{Ready, Goes, Stopped, RanOpen, RanBy, Ran, turns_of}
 use Rattle.turn_batch.proofs.Lows.{low_at}
 
 -- ---- before the first turn
 
 -- the swap of a member that makes turns
-opened : (m : Member) (s : Swapping) → open_swap m ≡ Some s → (m.swap ≡ Some s) × (m.ended ≡ false)
+pub opened : (m : Member) (s : Swapping) → open_swap m ≡ Some s → (m.swap ≡ Some s) × (m.ended ≡ false)
 opened m s is = go m.ended refl is
   where
     go : (t : Bool) → m.ended ≡ t → (if t then None else m.swap) ≡ Some s → (m.swap ≡ Some s) × (m.ended ≡ false)
@@ -53,12 +53,12 @@ pub ran_first : {D : Type 0} (disk : D → Disk) (files : ℕ → List ℕ) (ms 
 ran_first disk files ms ds low ready = record {
   members = refl;
   depots = refl;
-  each = λ i m d here. first_by disk (open_swap (get_or ms i m)) (get_or ms i m) (files i) (get_or ds i d) refl (low_at ms i m low here) (ready i m d here);
+  each = λ i m d here. first_by disk (open_swap (get_or ms i m)) (get_or ms i m) (files i) (get_or ds i d) refl (low_at ms i m low here).low (ready i m d here);
 }
 
 -- ---- a member that has ended stays
 
-more_closed : (n : ℕ) (s : Swapping) (m : Member) (o : List ℕ) (a b : Disk) → RanOpen n s m o a b → m.ended ≡ true → RanOpen (n + 1) s m o a b
+pub more_closed : (n : ℕ) (s : Swapping) (m : Member) (o : List ℕ) (a b : Disk) → RanOpen n s m o a b → m.ended ≡ true → RanOpen (n + 1) s m o a b
 more_closed n s m o a b ran ended = record {
   next = ran.next;
   swap = ran.swap;
@@ -75,84 +75,85 @@ more_closed n s m o a b ran ended = record {
 
 -- ---- one turn more of one member
 
-closed : (m : Member) (s : Swapping) → m.swap ≡ Some s → open_swap m ≡ None → m.ended ≡ true
+pub closed : (m : Member) (s : Swapping) → m.swap ≡ Some s → open_swap m ≡ None → m.ended ≡ true
 closed m s swap is = go m.ended refl is
   where
     go : (t : Bool) → m.ended ≡ t → (if t then None else m.swap) ≡ None → m.ended ≡ true
     go true e h = e
     go false e h = absurd (let both = sym swap ∙ h in cc)
 
-module _ (n : ℕ) (s : Swapping) (m : Member) (o : List ℕ) (a b b' : Disk) (ran : RanOpen n s m o a b) (cur : Swapping) (is : open_swap m ≡ Some cur) (m' : Member) (answer : BatchTurn) (t : Turned cur m' o b b' answer) where
-  here : ran.next ≡ cur
+module _ (n : ℕ) (s : Swapping) (m : Member) (o : List ℕ) (a b : Disk) (ran : RanOpen n s m o a b) (cur : Swapping) (is : open_swap m ≡ Some cur) where
+  pub here : ran.next ≡ cur
   here = some_same (sym ran.swap ∙ (opened m cur is).0)
     where
       some_same : {x y : Swapping} → Some x ≡ Some y → x ≡ y
       some_same h = cc
 
   -- no turn has answered Fault so far
-  goes : Goes n s ran.next m o a b
+  pub goes : Goes n s ran.next m o a b
   goes = ⊎_elim (λ (g : Goes n s ran.next m o a b). g) (λ (stopped : Stopped s ran.next m a b). absurd (let unended = (opened m cur is).1 in let shut = stopped.ended in cc)) ran.state
 
-  plan : cur.plan ≡ s.plan
+  pub plan : cur.plan ≡ s.plan
   plan = ap (λ (x : Swapping). x.plan) (sym here) ∙ ran.plan
 
-  all_calls : calls cur.plan ≡ calls s.plan
+  pub all_calls : calls cur.plan ≡ calls s.plan
   all_calls = ap calls plan
 
-  made : cur.made ≡ min (s.made + n) (calls s.plan)
+  pub made : cur.made ≡ min (s.made + n) (calls s.plan)
   made = ap (λ (x : Swapping). x.made) (sym here) ∙ goes.made
 
   -- calls are left
-  some_left : cur.made < calls s.plan
+  pub some_left : cur.made < calls s.plan
   some_left =
       let so = made in
       ⊎_elim
       (λ (e : cur.made ≡ calls s.plan). absurd (let unended = (opened m cur is).1 in let shut = goes.ended.1 (ap (λ (x : Swapping). x.made) here ∙ e) in cc))
       (λ (ne : cur.made ≡ calls s.plan → ⊥). omega (arith, ne)) (cases_eq cur.made (calls s.plan))
 
-  written : HasWritten s.plan s.made cur.made a b
+  pub written : HasWritten s.plan s.made cur.made a b
   written = record { least = ran.least; exact = goes.written ∙ ap (λ (x : Swapping). a.written + bytes_by s.plan x.made) here }
 
-  crash : Leaves (SettlesEither o (applied s.plan o)) a b'
-  crash = run_leaves s.plan cur.plan o cur.made a b b' plan ran.crash t.turned.crash
+  module _ (b' : Disk) (was : Bool) (m' : Member) (answer : BatchTurn) (t : Turned cur was m' o b b' answer) where
+    crash : Leaves (SettlesEither o (applied s.plan o)) a b'
+    crash = run_leaves s.plan cur.plan o cur.made a b b' plan ran.crash t.turned.crash
 
-  -- a turn that was Ok
-  went : (t.turn ≡ turn.Fault → ⊥) → (IsTrue m'.ended ↔ (t.next.made ≡ calls s.plan)) → Goes (n + 1) s t.next m' o a b'
-  went ok ended =
-      let left = some_left in
-      let so = made in
-      let e = all_calls in
-      let counts = t.turned.made ok in
-      let next : t.next.made ≡ cur.made + 1 = omega arith in
-      let far = written_next s.plan cur.plan s.made cur.made a b b' t.turn plan written t.turned.written ok t.next.made next in
-      record { made = omega arith; underway = t.turned.underway ok; ended = ended; written = far.exact }
+    -- a turn that was Ok
+    went : (t.turn ≡ turn.Fault → ⊥) → (IsTrue m'.ended ↔ (t.next.made ≡ calls s.plan)) → Goes (n + 1) s t.next m' o a b'
+    went ok ended =
+        let left = some_left in
+        let so = made in
+        let e = all_calls in
+        let counts = t.turned.made ok in
+        let next : t.next.made ≡ cur.made + 1 = omega arith in
+        let far = written_next s.plan cur.plan s.made cur.made a b b' t.turn plan written t.turned.written ok t.next.made next in
+        record { made = omega arith; underway = t.turned.underway ok; ended = ended; written = far.exact }
 
-  state : (x : Turn) → t.turn ≡ x → m' ≡ record { swap = Some t.next; ended = ends x } → Goes (n + 1) s t.next m' o a b' ⊎ Stopped s t.next m' a b'
-  state turn.More is_turn is_member =
-      let unended : m'.ended ≡ false = ap (λ (x : Member). x.ended) is_member in
-      let low = t.turned.more is_turn in
-      let e = all_calls in
-      inl (went (λ h. let both = sym is_turn ∙ h in cc) (λ h. absurd (let shut = h in cc), λ h. absurd (omega arith)))
-  state turn.Done is_turn is_member =
-      let shut : m'.ended ≡ true = ap (λ (x : Member). x.ended) is_member in
-      inl (went (λ h. let both = sym is_turn ∙ h in cc) (λ h. t.turned.done is_turn ∙ all_calls, λ h. shut))
-  state turn.Fault is_turn is_member =
-      inr (record {
-        ended = ap (λ (x : Member). x.ended) is_member;
-        failed = ap (λ (x : Swapping). x.failed) (t.turned.fault is_turn);
-        rose = rose_sooner a.faults b.faults b'.faults ran.crash.faults (t.turned.cause is_turn);
-        written = written_most s.plan cur.plan s.made cur.made a b b' t.turn plan written t.turned.written (subst CanRun plan t.turned.runs);
-      })
+    state : (x : Turn) → t.turn ≡ x → m' ≡ record { swap = Some t.next; ended = ends x; failed = fails x || was } → Goes (n + 1) s t.next m' o a b' ⊎ Stopped s t.next m' a b'
+    state turn.More is_turn is_member =
+        let unended : m'.ended ≡ false = ap (λ (x : Member). x.ended) is_member in
+        let low = t.turned.more is_turn in
+        let e = all_calls in
+        inl (went (λ h. let both = sym is_turn ∙ h in cc) (λ h. absurd (let shut = h in cc), λ h. absurd (omega arith)))
+    state turn.Done is_turn is_member =
+        let shut : m'.ended ≡ true = ap (λ (x : Member). x.ended) is_member in
+        inl (went (λ h. let both = sym is_turn ∙ h in cc) (λ h. t.turned.done is_turn ∙ all_calls, λ h. shut))
+    state turn.Fault is_turn is_member =
+        inr (record {
+          ended = ap (λ (x : Member). x.ended) is_member;
+          failed = ap (λ (x : Swapping). x.failed) (t.turned.fault is_turn);
+          rose = rose_sooner a.faults b.faults b'.faults ran.crash.faults (t.turned.cause is_turn);
+          written = written_most s.plan cur.plan s.made cur.made a b b' t.turn plan written t.turned.written (subst CanRun plan t.turned.runs);
+        })
 
-  pub more_open : RanOpen (n + 1) s m' o a b'
-  more_open = record {
-    next = t.next;
-    swap = ap (λ (x : Member). x.swap) t.member;
-    plan = t.turned.plan ∙ plan;
-    state = state t.turn refl t.member;
-    crash = crash;
-    least = written_least s.plan cur.plan s.made cur.made a b b' t.turn plan written t.turned.written;
-  }
+    pub more_open : RanOpen (n + 1) s m' o a b'
+    more_open = record {
+      next = t.next;
+      swap = ap (λ (x : Member). x.swap) t.member;
+      plan = t.turned.plan ∙ plan;
+      state = state t.turn refl t.member;
+      crash = crash;
+      least = written_least s.plan cur.plan s.made cur.made a b b' t.turn plan written t.turned.written;
+    }
 
 -- ---- by the swap that makes it
 
@@ -161,7 +162,7 @@ module _ {D : Type 0} (disk : D → Disk) (n : ℕ) (m0 m m' : Member) (o : List
   more_from s ran None is t =
       subst (λ (x : Member). RanOpen (n + 1) s x o (disk d0) (disk d')) (sym t.1)
       (subst (λ (x : D). RanOpen (n + 1) s m o (disk d0) (disk x)) (sym t.2) (more_closed n s m o (disk d0) (disk d) ran (closed m ran.next ran.swap is)))
-  more_from s ran (Some cur) is t = more_open n s m o (disk d0) (disk d) (disk d') ran cur is m' answer t
+  more_from s ran (Some cur) is t = more_open n s m o (disk d0) (disk d) ran cur is (disk d') m.failed m' answer t
 
   more_by : (x : Option Swapping) → open_swap m0 ≡ x → RanBy disk x n m0 m o d0 d → TurnedAt disk o m m' d d' answer → RanBy disk x (n + 1) m0 m' o d0 d'
   more_by None is ran t =
@@ -180,7 +181,7 @@ ready_from n s m o a b ran (Some cur) is =
     some_same : {x y : Swapping} → Some x ≡ Some y → x ≡ y
     some_same h = cc
 
-ready_by : {D : Type 0} (disk : D → Disk) (x : Option Swapping) (n : ℕ) (m0 m : Member) (o : List ℕ) (d0 d : D) → open_swap m0 ≡ x → RanBy disk x n m0 m o d0 d → IsReady o m0 (disk d0) → IsReady o m (disk d)
+pub ready_by : {D : Type 0} (disk : D → Disk) (x : Option Swapping) (n : ℕ) (m0 m : Member) (o : List ℕ) (d0 d : D) → open_swap m0 ≡ x → RanBy disk x n m0 m o d0 d → IsReady o m0 (disk d0) → IsReady o m (disk d)
 ready_by disk None n m0 m o d0 d is ran ready =
     subst (λ (y : Option Swapping). OnSwap y (λ s. Underway s o (disk d))) (sym (ap open_swap ran.0 ∙ is)) tt
 ready_by disk (Some s) n m0 m o d0 d is ran ready = ready_from n s m o (disk d0) (disk d) ran.1 (open_swap m) refl
@@ -192,7 +193,7 @@ some_depot (d ∷ ds) some = d
 
 -- a member that makes no turns
 pub no_member : Member
-no_member = record { swap = None; ended = true }
+no_member = record { swap = None; ended = true; failed = false }
 
 -- ---- whether some make turns
 
@@ -208,14 +209,14 @@ pub some_more : (ms : List Member) (m : Member) → some_open (ms ++ m ∷ []) �
 some_more [] m = or_false (is_open m)
 some_more (x ∷ ms) m = ap (λ (t : Bool). is_open x || t) (some_more ms m) ∙ or_more (is_open x) (some_open ms) (is_open m)
 
-told_more : (s : Swapping) (t : Turn) → is_open (record { swap = Some s; ended = ends t }) ≡ is_more (told t)
-told_more s turn.More = refl
-told_more s turn.Done = refl
-told_more s turn.Fault = refl
+told_more : (s : Swapping) (was : Bool) (t : Turn) → is_open (record { swap = Some s; ended = ends t; failed = fails t || was }) ≡ is_more (told t)
+told_more s was turn.More = refl
+told_more s was turn.Done = refl
+told_more s was turn.Fault = refl
 
 open_by : {D : Type 0} (disk : D → Disk) (x : Option Swapping) (o : List ℕ) (m m' : Member) (d d' : D) (answer : BatchTurn) → open_swap m ≡ x → TurnedBy disk x o m m' d d' answer → is_open m' ≡ is_more answer
 open_by disk None o m m' d d' answer is t = ap is_open t.1 ∙ ap (λ (y : Option Swapping). is_some y) is ∙ sym (ap is_more t.0)
-open_by disk (Some s) o m m' d d' answer is t = ap is_open t.member ∙ told_more t.next t.turn ∙ sym (ap is_more t.is)
+open_by disk (Some s) o m m' d d' answer is t = ap is_open t.member ∙ told_more t.next m.failed t.turn ∙ sym (ap is_more t.is)
 
 pub open_after : {D : Type 0} (disk : D → Disk) (o : List ℕ) (m m' : Member) (d d' : D) (answer : BatchTurn) → TurnedAt disk o m m' d d' answer → is_open m' ≡ is_more answer
 open_after disk o m m' d d' answer t = open_by disk (open_swap m) o m m' d d' answer refl t
@@ -228,10 +229,10 @@ some_next ms ms' i m' was now answer low is before told_so next =
 
 -- ---- all members
 
-abbrev one_if : Bool → ℕ
+abbrev pub one_if : Bool → ℕ
 one_if t = if t then 1 else 0
 
-turns_more : (i k : ℕ) (ks : List ℕ) → turns_of i (ks ++ k ∷ []) ≡ turns_of i ks + one_if (k == i)
+pub turns_more : (i k : ℕ) (ks : List ℕ) → turns_of i (ks ++ k ∷ []) ≡ turns_of i ks + one_if (k == i)
 turns_more i k [] = omega arith
 turns_more i k (x ∷ ks) = let h = turns_more i k ks in omega arith
 

@@ -1,5 +1,5 @@
 -- Turns of a batch by a schedule: the numbers of the members whose turns are made.
-use Rattle.std.specs.Prelude.{◌≡◌, ◌⊎◌, ◌↔◌, ℕ, zero, suc, ◌+◌, ◌<◌, ◌≤◌, ◌==◌, min, true, if◌then◌else◌, IsTrue, List, [], ◌∷◌, ◌++◌, length, get_or, Option, Some, None}
+use Rattle.std.specs.Prelude.{◌≡◌, ◌⊎◌, ◌↔◌, ℕ, zero, suc, ◌+◌, ◌<◌, ◌≤◌, ◌==◌, min, true, if◌then◌else◌, IsTrue, List, [], ◌∷◌, ◌++◌, length, get_or, Option, Some, None, IfSome}
 use Rattle.me_disk.specs.Causes.{Rose}
 use Rattle.me_disk.specs.Disk.{Disk, Leaves}
 use Rattle.part_tree.specs.Plans.{applied}
@@ -7,7 +7,7 @@ use Rattle.file_swap.specs.Steps.{calls, bytes_by, bytes_written}
 use Rattle.file_swap.specs.Midway.{SettlesEither}
 use Rattle.file_swap.specs.Swap.{Swapping, Underway}
 use Rattle.turn_batch.specs.declared.member.Member.{Member}
-use Rattle.turn_batch.specs.Members.{open_swap, IsReady}
+use Rattle.turn_batch.specs.Members.{open_swap, some_open, IsReady}
 
 -- how many turns of the member of this number a schedule has
 abbrev pub turns_of : ℕ → List ℕ → ℕ
@@ -58,3 +58,17 @@ pub record Ran {D : Type 0} (disk : D → Disk) (files : ℕ → List ℕ) (sche
   pub depots : length ds' ≡ length ds
   pub each : (i : ℕ) (m : Member) (d : D) → i < length ms
       → RanBy disk (open_swap (get_or ms i m)) (turns_of i schedule) (get_or ms i m) (get_or ms' i m) (files i) (get_or ds i d) (get_or ds' i d)
+
+-- each member made so many turns, or as many as it had
+pub record RanEach {D : Type 0} (disk : D → Disk) (files : ℕ → List ℕ) (n : ℕ) (ms ms' : List Member) (ds ds' : List D) : Type 0 where
+  pub members : length ms' ≡ length ms
+  pub depots : length ds' ≡ length ds
+  pub each : (i : ℕ) (m : Member) (d : D) → i < length ms
+      → RanBy disk (open_swap (get_or ms i m)) n (get_or ms i m) (get_or ms' i m) (files i) (get_or ds i d) (get_or ds' i d)
+
+-- Rounds until every member has ended, or until so many were made where that is a number: a turn of each member a round.
+pub record RanRounds {D : Type 0} (disk : D → Disk) (files : ℕ → List ℕ) (most : Option ℕ) (ms ms' : List Member) (ds ds' : List D) : Type 0 where
+  pub made : ℕ
+  pub few : IfSome most (λ n. made ≤ n)
+  pub whole : some_open ms' ≡ true → most ≡ Some made
+  pub ran : RanEach disk files made ms ms' ds ds'

@@ -1,7 +1,7 @@
 // Members in turns.
-ghost use Rattle.std.specs.Prelude.{◌≡◌, ◌<◌, ℕ, List, IfOk, IsTrue, length, map, set, get_or, slice_index, EachIndex};
-ghost use Rattle.turn_batch.specs.Members.{fresh_member, AllFresh, IsReady, TurnedAt, some_open};
-ghost use Rattle.turn_batch.specs.Schedules.{Ready, Ran, each_once};
+ghost use Rattle.std.specs.Prelude.{◌≡◌, ◌<◌, ℕ, List, IfOk, Some, None, length, map, set, get_or, slice_index, EachIndex};
+ghost use Rattle.turn_batch.specs.Members.{fresh_member, AllFresh, IsReady, TurnedAt, failed_in, is_open, some_open};
+ghost use Rattle.turn_batch.specs.Schedules.{Ready, Ran, RanRounds, each_once};
 
 use crate::member::{BatchTurn, Member};
 use file_swap::Swap;
@@ -34,7 +34,11 @@ fn members_of(alloc: Global, swaps: Vec<Option<Swap>>) -> Result<Vec<Member>, No
 {
     let mut members = Vec::with_capacity(alloc, swaps.len())?;
     for swap in swaps {
-        match members.push(Member { swap, ended: false }) {
+        match members.push(Member {
+            swap,
+            ended: false,
+            failed: false,
+        }) {
             Err(_) => return Err(NoMemory),
             Ok(()) => {}
         }
@@ -95,6 +99,79 @@ impl Batch {
             if self.turn(depots, i).is_more() {
                 open = true;
             }
+        }
+        open
+    }
+
+    /// Whether the member of this number has turns left.
+    pub fn is_open(&self, i: usize) -> bool
+        requires { i < length self.now }
+        ensures { (m : Member) → result ≡ is_open (get_or self.now i m) }
+    {
+        self.members[i].is_open()
+    }
+
+    /// Whether some member has turns left.
+    pub fn some_open(&self) -> bool
+        ensures { result ≡ some_open self.now }
+    {
+        self.members.iter().any(|member| member.is_open())
+    }
+
+    /// Whether a turn of the member of this number has answered Fault.
+    pub fn has_failed(&self, i: usize) -> bool
+        requires { i < length self.now }
+        ensures { (m : Member) → result ≡ failed_in (get_or self.now i m).swap }
+    {
+        self.members[i].failed
+    }
+
+    /// Makes rounds until every member has ended, and at most so many where that is a number. Says whether some member hasn't
+    /// ended then.
+    pub fn rounds<D: Depot>(&mut self, depots: &mut [D], most: Option<u64>) -> bool
+        ghost files: { ℕ → List ℕ }
+        requires depots { length depots.old ≡ length self.old }
+        requires ready { Ready D.disk files self.old depots.old }
+        ensures ran { RanRounds D.disk files most self.old self.new depots.old depots.new }
+        ensures open { result ≡ some_open self.new }
+    {
+        match most {
+            Some(most) => self.some_rounds(depots, most),
+            None => self.all_rounds(depots),
+        }
+    }
+
+    // Makes at most so many rounds.
+    fn some_rounds<D: Depot>(&mut self, depots: &mut [D], most: u64) -> bool
+        ghost files: { ℕ → List ℕ }
+        requires depots { length depots.old ≡ length self.old }
+        requires ready { Ready D.disk files self.old depots.old }
+        ensures ran { RanRounds D.disk files (Some most) self.old self.new depots.old depots.new }
+        ensures open { result ≡ some_open self.new }
+    {
+        prove!(depots.len() == self.members.len());
+        let mut open = self.some_open();
+        for _made in 0..most {
+            if !open {
+                return false;
+            }
+            open = self.round(depots);
+        }
+        open
+    }
+
+    // Makes rounds until every member has ended.
+    fn all_rounds<D: Depot>(&mut self, depots: &mut [D]) -> bool
+        ghost files: { ℕ → List ℕ }
+        requires depots { length depots.old ≡ length self.old }
+        requires ready { Ready D.disk files self.old depots.old }
+        ensures ran { RanRounds D.disk files None self.old self.new depots.old depots.new }
+        ensures open { result ≡ some_open self.new }
+    {
+        prove!(depots.len() == self.members.len());
+        let mut open = self.some_open();
+        while open {
+            open = self.round(depots);
         }
         open
     }

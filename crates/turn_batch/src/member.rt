@@ -1,6 +1,6 @@
 // One member of a batch.
 ghost use Rattle.std.specs.Prelude.{◌≡◌, ℕ, List, IsTrue};
-ghost use Rattle.turn_batch.specs.Members.{open_swap, is_open, IsReady, TurnedAt};
+ghost use Rattle.turn_batch.specs.Members.{is_open, IsReady, TurnedAt};
 
 use file_swap::{Swap, Turn};
 use me_disk::Depot;
@@ -29,11 +29,12 @@ impl BatchTurn {
     }
 }
 
-/// A swap, if there is one, and whether a turn of it has answered Done or Fault.
+/// A swap, if there is one, whether a turn of it has answered Done or Fault, and whether it was Fault.
 #[derive(Drop)]
 pub struct Member {
     pub(crate) swap: Option<Swap>,
     pub(crate) ended: bool,
+    pub(crate) failed: bool,
 }
 
 impl Member {
@@ -57,8 +58,16 @@ impl Member {
             }
             Turn::Fault => {
                 self.ended = true;
+                self.failed = true;
                 BatchTurn::Fault
             }
         }
+    }
+
+    /// Whether turns are left.
+    pub(crate) fn is_open(&self) -> bool
+        ensures { result ≡ is_open self.now }
+    {
+        !self.ended && self.swap.is_some()
     }
 }
