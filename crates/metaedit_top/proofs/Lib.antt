@@ -3,7 +3,7 @@ pub mod Rules
 pub mod Acted
 pub mod Ran
 pub mod Tops
-pub mod Changes
+pub mod Prepared
 pub mod Sets
 pub mod Looks
 pub mod FileWord

@@ -10,6 +10,8 @@ use Rattle.edit_journal.specs.Settled.{Settles, StandsAlone}
 use Rattle.recovery.specs.Recovered.{IsBroken, bytes_to_redo}
 use Rattle.recovery.specs.Redo.{SettlesAlike}
 use Rattle.part_tree.specs.declared.field.Broken.{Broken}
+use Rattle.part_tree.specs.declared.field.EditItem.{EditItem}
+use Rattle.part_tree.specs.declared.field.RuleSet.{RuleSet}
 use Rattle.part_tree.specs.Large.{Size}
 use Rattle.me_report.specs.declared.line.Summary.{Summary}
 use Rattle.metaedit_top.specs.declared.outcome.Outcome.{Outcome}
@@ -70,15 +72,15 @@ pub record HasTold (q : Request) (o : List ℕ) (stood : Bool) (f : Finished) : 
 -- ---- why a run stops before its output
 
 -- a size of the new file passes its limit, and nothing else stands against the edit
-pub record IsTooLarge (q : Request) (o : List ℕ) (size : Size) : Type 0 where
+pub record IsTooLarge (rules : RuleSet) (e : List EditItem) (o : List ℕ) (size : Size) : Type 0 where
   pub supported : why_in o ≡ None
-  pub unbroken : broken_by q.rules q.edit o ≡ None
-  pub large : too_large o q.edit ≡ Some size
+  pub unbroken : broken_by rules e o ≡ None
+  pub large : too_large o e ≡ Some size
 
 -- the file is supported, and this is the first rule that the edit breaks
-pub record IsRefused (q : Request) (o : List ℕ) (b : Broken) : Type 0 where
+pub record IsRefused (rules : RuleSet) (e : List EditItem) (o : List ℕ) (b : Broken) : Type 0 where
   pub supported : why_in o ≡ None
-  pub broken : broken_by q.rules q.edit o ≡ Some b
+  pub broken : broken_by rules e o ≡ Some b
 
 -- The file that the state at entry stands for stands alone, and a crash at any moment would have left what stands for it. A
 -- journal that stood beside it is redone, and no file that was begun is left.
@@ -99,9 +101,9 @@ Stops q old new stop.Depot = Rose old.faults new.faults
 Stops q old new stop.NoFile = IsTrue old.tells → old.slots.main ≡ None
 Stops q old new (stop.Damaged at) = IsTrue old.tells → IsBroken old.slots at
 Stops q old new (stop.NotSupported w) = (reads_file q.command ≡ true) × OnFile old (λ o. why_in o ≡ Some w)
-Stops q old new (stop.RuleBroken b) = (edits_file q.command ≡ true) × OnFile old (λ o. IsRefused q o b)
+Stops q old new (stop.RuleBroken b) = (edits_file q.command ≡ true) × OnFile old (λ o. IsRefused q.rules q.edit o b)
 Stops q old new (stop.TooLarge size limit) =
-    (edits_file q.command ≡ true) × OnFile old (λ o. IsBytes o → IsTooLarge q o (record { size = size; limit = limit }))
+    (edits_file q.command ≡ true) × OnFile old (λ o. IsBytes o → IsTooLarge q.rules q.edit o (record { size = size; limit = limit }))
 Stops q old new stop.Memory = ⊤
 
 -- at most the bytes of the run were written

@@ -42,9 +42,9 @@ ActStops q old new stop.Depot = Rose old.faults new.faults
 ActStops q old new stop.NoFile = ⊥
 ActStops q old new (stop.Damaged at) = ⊥
 ActStops q old new (stop.NotSupported w) = (reads_file q.command ≡ true) × OnHeld old (λ o. why_in o ≡ Some w)
-ActStops q old new (stop.RuleBroken b) = (edits_file q.command ≡ true) × OnHeld old (λ o. IsRefused q o b)
+ActStops q old new (stop.RuleBroken b) = (edits_file q.command ≡ true) × OnHeld old (λ o. IsRefused q.rules q.edit o b)
 ActStops q old new (stop.TooLarge size limit) =
-    (edits_file q.command ≡ true) × OnHeld old (λ o. IsBytes o → IsTooLarge q o (record { size = size; limit = limit }))
+    (edits_file q.command ≡ true) × OnHeld old (λ o. IsBytes o → IsTooLarge q.rules q.edit o (record { size = size; limit = limit }))
 ActStops q old new stop.Memory = Unit {0}
 
 -- what is left at a stop: at a fault of the device at most what the run writes was written, and else nothing was

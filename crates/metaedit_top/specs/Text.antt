@@ -10,7 +10,7 @@ use Rattle.me_report.specs.Lines.{or_nothing}
 use Rattle.metaedit_top.specs.declared.outcome.Outcome.{Outcome}
 use Rattle.metaedit_top.specs.declared.outcome.Outcome.TheVariants.{Done, Usage, DepotFault, NoFile, JournalDamaged, NotSupported, RuleBroken, TooLarge, OutFault, Memory}
 use Rattle.metaedit_top.specs.declared.outcome.UsageFault.{UsageFault}
-use Rattle.metaedit_top.specs.declared.outcome.UsageFault.TheVariants.{NoCommand, UnknownCommand, Words, Item, Field, Twice}
+use Rattle.metaedit_top.specs.declared.outcome.UsageFault.TheVariants.{NoCommand, UnknownCommand, Words, Item, Field, Twice, SameFile}
 use Rattle.metaedit_top.specs.declared.text.Told.{Told}
 use Rattle.metaedit_top.specs.declared.text.Told.TheVariants.{Nothing, Number, Numbers, Letters, LettersAnd}
 
@@ -43,12 +43,14 @@ usage_name Words = codes "Words"
 usage_name (Item n) = codes "Item"
 usage_name (Field n) = codes "Field"
 usage_name (Twice n) = codes "Twice"
+usage_name (SameFile n) = codes "SameFile"
 
 -- and the number of the item
 abbrev pub usage_told : UsageFault → Told
 usage_told (Item n) = Number n
 usage_told (Field n) = Number n
 usage_told (Twice n) = Number n
+usage_told (SameFile n) = Number n
 usage_told _ = Nothing
 
 -- the name of a reason for which a file is refused

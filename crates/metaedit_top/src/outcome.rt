@@ -1,5 +1,6 @@
 // What a run answers.
 
+use file_swap::Swap;
 use me_report::Summary;
 use part_tree::{Broken, Bytes, Why};
 
@@ -18,6 +19,8 @@ pub enum UsageFault {
     Field { n: u64 },
     /// Item n names the field of an earlier one.
     Twice { n: u64 },
+    /// File n of a batch, from 1, is named by the word of an earlier one.
+    SameFile { n: u64 },
 }
 
 /// What a run answers.
@@ -50,6 +53,14 @@ pub enum Outcome {
 pub(crate) struct Finished {
     pub(crate) summary: Summary,
     pub(crate) text: Bytes,
+}
+
+/// What is ready for an edit: what is to be printed once it is done, and the swap that makes it; none where no item has an
+/// effect.
+#[derive(Drop)]
+pub(crate) struct Prepared {
+    pub(crate) finished: Finished,
+    pub(crate) swap: Option<Swap>,
 }
 
 /// Why a run stops before its output.

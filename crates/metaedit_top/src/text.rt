@@ -48,6 +48,7 @@ fn usage_name(fault: &UsageFault) -> &'static str
         UsageFault::Item { n: _ } => "Item",
         UsageFault::Field { n: _ } => "Field",
         UsageFault::Twice { n: _ } => "Twice",
+        UsageFault::SameFile { n: _ } => "SameFile",
     }
 }
 
@@ -58,6 +59,7 @@ fn usage_told(fault: &UsageFault) -> Told
         UsageFault::Item { n } => Told::Number(*n),
         UsageFault::Field { n } => Told::Number(*n),
         UsageFault::Twice { n } => Told::Number(*n),
+        UsageFault::SameFile { n } => Told::Number(*n),
         _ => Told::Nothing,
     }
 }
