@@ -33,8 +33,8 @@ pub record TellsOf (k : KindModel) (o : List ℕ) (m : FileMap) : Type 0 where
   pub entries : (told_in m).entries ≡ k.entries o
   pub tracks : (told_in m).tracks ≡ k.tracks o
 
--- The map was read of the depot: it is that of the file and tells what it is, its fields are lawful and in field order, and
--- its range lies inside the file.
+-- The map was read of the depot: it is that of the file and tells what it is, its fields are lawful and in field
+-- order, and its range lies inside the file.
 pub record IsRead (d : Disk) (m : FileMap) : Type 0 where
   pub mapped : (o : List ℕ) → Holds d o → Maps o m
   pub tells : (o : List ℕ) → Holds d o → TellsOf (model_in o) o m

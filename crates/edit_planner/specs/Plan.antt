@@ -26,7 +26,14 @@ SoundMap (Wave m) = IsSound m
 
 -- what a report tells of it
 abbrev pub told_in : FileMap → Told
-told_in (Wave m) = record { kind = m.kind; payload = m.sound.len; fields = m.fields; entries = None; tracks = []; mdats = [] }
+told_in (Wave m) = record {
+  kind = m.kind;
+  payload = m.sound.len;
+  fields = m.fields;
+  entries = None;
+  tracks = [];
+  mdats = [];
+}
 
 -- how many streams can have fields of their own
 abbrev pub streams_in : FileMap → ℕ
@@ -43,7 +50,9 @@ fields_in m = values (told_in m).fields
 -- the length of the body of the JUNK that is reserved for `ds64`, directly behind the form's type
 abbrev pub reserved_in : List Part → Option ℕ
 reserved_in [] = None
-reserved_in (p ∷ ps) = if bytes_eq p.id.0 (codes "JUNK") && (nat_le 28 p.body.len && nat_le p.body.len (2 ^ 24)) then Some p.body.len else None
+reserved_in (p ∷ ps) =
+    if bytes_eq p.id.0 (codes "JUNK") && (nat_le 28 p.body.len && nat_le p.body.len (2 ^ 24)) then Some p.body.len
+    else None
 
 -- what a form that becomes RF64 tells in its `ds64`
 abbrev pub widening_in : WaveMap → Widening

@@ -47,8 +47,8 @@ fn of_wave(map: WaveMap) -> FileMap
     FileMap::Wave(map)
 }
 
-/// The map of a file, whatever its kind, or the first reason for which it is refused. The depot is only read. `Depot` only where
-/// the count of the depot's faults rose.
+/// The map of a file, whatever its kind, or the first reason for which it is refused. The depot is only read. `Depot`
+/// only where the count of the depot's faults rose.
 pub fn read<D: Depot>(alloc: Global, depot: &mut D) -> Result<FileMap, ReadFault>
     ensures file { (o : List ℕ) → Holds (D.disk depot.old) o → ReadsKind (model_in o) Maps o result }
     ensures sound { IfOk result (λ map. SoundMap map) }

@@ -84,9 +84,10 @@ fn widening_of(wave: &WaveMap) -> Widening
     }
 }
 
-/// The plan of an edit of the file in the depot, whose map this is. Each item has an effect on the fields of the map, and they
-/// break no basic rule. In place exactly where the edit has room there, and else a new file; a RIFF form that grows past 32 bits
-/// becomes RF64. `TooLarge` is the first size of the new file that passes its limit; `Depot` only where the count of the depot's faults rose.
+/// The plan of an edit of the file in the depot, whose map this is. Each item has an effect on the fields of the map,
+/// and they break no basic rule. In place exactly where the edit has room there, and else a new file; a RIFF form that
+/// grows past 32 bits becomes RF64. `TooLarge` is the first size of the new file that passes its limit; `Depot` only
+/// where the count of the depot's faults rose.
 pub fn plan<D: Depot>(
     alloc: Global,
     depot: &mut D,

@@ -46,4 +46,5 @@ all_lines es = flat_map (field_lines (values es)) (names es)
 
 -- the kind, the length of the sound or pictures, the counted entries of indexes, and the fields
 abbrev pub show_report : Told → List ℕ
-show_report t = kind_line t.kind ++ (count_line (codes "essence ") t.payload ++ (index_line t.entries ++ all_lines t.fields))
+show_report t =
+    kind_line t.kind ++ (count_line (codes "essence ") t.payload ++ (index_line t.entries ++ all_lines t.fields))

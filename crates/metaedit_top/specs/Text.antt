@@ -126,7 +126,8 @@ told_line words told = words ++ (told_words told ++ codes "\n")
 abbrev pub rule_line : Broken → List ℕ
 rule_line b = codes "refused 7 " ++ (named_rule b.rule ++ (codes " " ++ (or_nothing (name_text b.field) ++ codes "\n")))
 
--- the line of each outcome: `refused`, its status, its name, and its numbers and identifiers; none where the run is done
+-- the line of each outcome: `refused`, its status, its name, and its numbers and identifiers; none where the run is
+-- done
 abbrev pub line : Outcome → List ℕ
 line (Done s) = []
 line (Usage fault) = told_line (codes "refused 2 Usage " ++ usage_name fault) (usage_told fault)

@@ -1,7 +1,6 @@
 //! The editor of the metadata of files: one call does all that the program does.
-//! It reads the words, settles the file after a crash, reads it, tells of it or edits it in place or by a new file, and prints
-//! one report.
-//! It knows no kind of files, and but for `run_program`, which makes the devices, no device.
+//! It reads the words, settles the file after a crash, reads it, tells of it or edits it in place or by a new file,
+//! and prints one report. It knows no kind of files, and but for `run_program`, which makes the devices, no device.
 #![tactic(auto)]
 
 mod change;

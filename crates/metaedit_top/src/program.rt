@@ -1,5 +1,5 @@
-// The whole program over the objects of the system: it makes the devices, and calls the editor with them. What goes into
-// the editor and what comes out of it is said by the functions that it calls.
+// The whole program over the objects of the system: it makes the devices, and calls the editor with them. What goes
+// into the editor and what comes out of it is said by the functions that it calls.
 
 use crate::started::{StartFault, file_of, finish, start_code, words_of};
 use crate::top::metaedit;

@@ -26,7 +26,8 @@ pub record IsFrame (b : List ℕ) (f : Frame) : Type 0 where
   pub size : f.size ≡ length (inner (wave_of b))
   pub pad : f.pad ≡ length (wave_of b).pad
 
--- whatever the file: the form lies in it, and chunks from a place up to an end lie in the form, behind its header and the size in `ds64`
+-- whatever the file: the form lies in it, and chunks from a place up to an end lie in the form, behind its header and
+-- the size in `ds64`
 pub record IsRound (from end : ℕ) (f : Frame) : Type 0 where
   pub small : f.len < 2 ^ 63
   pub inside : 8 + f.size + f.pad ≤ f.len

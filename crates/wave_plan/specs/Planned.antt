@@ -34,11 +34,13 @@ edited_cells b e = carried (steps (raw_items (fields b) e)) (cells_of (wave_of b
 
 -- what the units come to is what the edit of the file comes to
 abbrev pub ComesTo : List ℕ → List EditItem → UnitCuts → Type 0
-ComesTo b e u = outcome_in b u ≡ cells_outcome part_count (ends_file (wave_of b)) (children_at (wave_of b)) (edited_cells b e)
+ComesTo b e u =
+    outcome_in b u ≡ cells_outcome part_count (ends_file (wave_of b)) (children_at (wave_of b)) (edited_cells b e)
 
 -- the lengths of the new file's lists, with their limit
 abbrev pub list_sizes : List ℕ → List EditItem → List Size
-list_sizes b e = map (λ x. limited (2 ^ 24) (length x)) (bodies is_info (new_children (wave_of b) (raw_items (fields b) e)))
+list_sizes b e =
+    map (λ x. limited (2 ^ 24) (length x)) (bodies is_info (new_children (wave_of b) (raw_items (fields b) e)))
 
 -- An edit that breaks no basic rule, of which an item has an effect, and of which no list is too large.
 pub record IsListed (b : List ℕ) (e : List EditItem) : Type 0 where
@@ -46,8 +48,8 @@ pub record IsListed (b : List ℕ) (e : List EditItem) : Type 0 where
   pub effect : 0 < length (effective (fields b) e)
   pub lists : first_above (list_sizes b e) ≡ None
 
--- Whatever the file: the spans of the units lie in the form, and are exact where the units fit, but that the last one may end
--- the file.
+-- Whatever the file: the spans of the units lie in the form, and are exact where the units fit, but that the last one
+-- may end the file.
 pub record StandsIn (f : Frame) (u : UnitCuts) : Type 0 where
   pub from : ℕ
   pub end : ℕ

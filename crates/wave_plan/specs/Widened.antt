@@ -1,4 +1,5 @@
--- The spans of an edit that makes a RIFF form RF64, as a planner holds them (this project's own; EBU Tech 3306 for `ds64`).
+-- The spans of an edit that makes a RIFF form RF64, as a planner holds them (this project's own; EBU Tech 3306 for
+-- `ds64`).
 use Rattle.std.specs.Prelude.{◌≡◌, ◌≤◌, ℕ, ◌+◌, ◌-◌, ◌/◌, ◌%◌, ◌^◌, List, [], ◌∷◌, ◌++◌, length, take, false, nat_le, codes, Option, Some, None, if◌then◌else◌}
 use Rattle.std.specs.Int.{w32, to_le_bytes}
 use Rattle.container_model.specs.Chunk.{Chunk}
@@ -40,12 +41,14 @@ field_at w = record { span = record { at = w.sound.at - 4; len = 4 }; bytes = 25
 
 -- ds64 with a body of so many bytes, for a form of this size
 abbrev pub ds64_spelled : Widening → ℕ → ℕ → List ℕ
-ds64_spelled w len size = codes "ds64" ++ (to_le_bytes w32 len ++ ds64_body len size w.sound.len (w.sound.len / w.align))
+ds64_spelled w len size =
+    codes "ds64" ++ (to_le_bytes w32 len ++ ds64_body len size w.sound.len (w.sound.len / w.align))
 
 -- It stands at 12, or over the reserved JUNK up to its pad.
 abbrev pub ds64_by : Widening → Option ℕ → ℕ → CutAt
 ds64_by w None size = record { span = record { at = 12; len = 0 }; bytes = ds64_spelled w 28 size; keep = 0 }
-ds64_by w (Some n) size = record { span = record { at = 12; len = 8 + n + n % 2 }; bytes = ds64_spelled w n size; keep = n % 2 }
+ds64_by w (Some n) size =
+    record { span = record { at = 12; len = 8 + n + n % 2 }; bytes = ds64_spelled w n size; keep = n % 2 }
 
 -- how many parts more a form has with its ds64, and how many bytes
 abbrev pub more_parts : Option ℕ → ℕ

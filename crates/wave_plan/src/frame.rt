@@ -9,7 +9,8 @@ ghost use Rattle.wave_plan.specs.Frame.{IsFormOf, IsFrame, IsRound, IsSoundForm,
 
 use me_disk::{Depot, DepotFault, Slot};
 
-/// A form in its file: whether it is one of those that have `ds64`, the length of the file, and the byte where the form ends.
+/// A form in its file: whether it is one of those that have `ds64`, the length of the file, and the byte where the
+/// form ends.
 #[derive(Clone, Copy, Debug, PartialEq, Eq)]
 pub struct FormAt {
     pub big: bool,
@@ -17,8 +18,8 @@ pub struct FormAt {
     pub end: u64,
 }
 
-/// What stands round the chunks of a form: whether the form is one of those that have `ds64`, whether its size stands there,
-/// the length of the file, the form's size, and the length of its pad, all in bytes.
+/// What stands round the chunks of a form: whether the form is one of those that have `ds64`, whether its size stands
+/// there, the length of the file, the form's size, and the length of its pad, all in bytes.
 #[derive(Clone, Copy, Debug, PartialEq, Eq)]
 pub struct Frame {
     pub big: bool,
@@ -28,10 +29,12 @@ pub struct Frame {
     pub pad: u64,
 }
 
-// Whether the form's size stands in `ds64`, which ends at the byte `from` or before it: where the header's own field is FFFFFFFF.
+// Whether the form's size stands in `ds64`, which ends at the byte `from` or before it: where the header's own field
+// is FFFFFFFF.
 fn reads_wide<D: Depot>(depot: &mut D, form: FormAt, from: u64) -> Result<bool, DepotFault>
     requires form { (b : List ℕ) → Holds (D.disk depot.old) b → IsFormOf b form }
-    ensures wide { (b : List ℕ) → Holds (D.disk depot.old) b → IsBytes b → from ≡ children_at (wave_of b) → IfOk result (λ w. w ≡ is_wide b) }
+    ensures wide { (b : List ℕ) → Holds (D.disk depot.old) b → IsBytes b → from ≡ children_at (wave_of b)
+        → IfOk result (λ w. w ≡ is_wide b) }
     ensures table { IfOk result (λ w. w ≡ true → 28 ≤ from) }
     ensures reads { ReadsOnly (D.disk depot.old) (D.disk depot.new) }
     ensures cause { HasCause (D.disk depot.old) (D.disk depot.new) result }
@@ -51,7 +54,8 @@ fn reads_wide<D: Depot>(depot: &mut D, form: FormAt, from: u64) -> Result<bool, 
 pub fn read_frame<D: Depot>(depot: &mut D, form: FormAt, from: u64) -> Result<Frame, DepotFault>
     requires form { (b : List ℕ) → Holds (D.disk depot.old) b → IsFormOf b form }
     requires sound { IsSoundForm form }
-    ensures frame { (b : List ℕ) → Holds (D.disk depot.old) b → IsBytes b → from ≡ children_at (wave_of b) → IfOk result (λ f. IsFrame b f) }
+    ensures frame { (b : List ℕ) → Holds (D.disk depot.old) b → IsBytes b → from ≡ children_at (wave_of b)
+        → IfOk result (λ f. IsFrame b f) }
     ensures round { IfOk result (λ f. (end : ℕ) → 12 ≤ from → end ≤ form.end → IsRound from end f) }
     ensures len { IfOk result (λ f. f.len ≡ form.len) }
     ensures reads { ReadsOnly (D.disk depot.old) (D.disk depot.new) }
@@ -77,7 +81,8 @@ fn pad_of(size: u64, behind: u64) -> u64
 }
 
 impl Frame {
-    /// The length of the form's pad with another size: it is there where the size is odd and something follows the form.
+    /// The length of the form's pad with another size: it is there where the size is odd and something follows the
+    /// form.
     pub fn pad_after(&self, size: u64) -> u64
         requires { 8 + self.now.size + self.now.pad ≤ self.now.len }
         ensures { result ≡ pad_after self.now size }

@@ -40,8 +40,8 @@ pub fn pad_cut(alloc: Global, frame: &Frame, size: u64) -> Result<Option<CutAt>,
     }))
 }
 
-/// The spans of an edit that gives a form this size: the units', and where it is another size than before, the size and the
-/// form's pad.
+/// The spans of an edit that gives a form this size: the units', and where it is another size than before, the size
+/// and the form's pad.
 pub fn framed(
     alloc: Global,
     frame: &Frame,

@@ -1,5 +1,5 @@
-//! From the places of a WAVE or RF64 form to the plan of an edit: what stands round the form's chunks is changed with them, and
-//! what is too large is told. It doesn't know what an edit makes of a chunk.
+//! From the places of a WAVE or RF64 form to the plan of an edit: what stands round the form's chunks is changed with
+//! them, and what is too large is told. It doesn't know what an edit makes of a chunk.
 #![tactic(auto)]
 
 mod frame;

@@ -68,12 +68,14 @@ fn size_after(frame: &Frame, moved: u64) -> u64
     moved - (frame.len - frame.size)
 }
 
-// The plan of an edit that keeps the width of a form's size, by what its units come to; the form has `size` bytes then. `TooLarge` is
-// the first of these that passes its limit: the parts, the form's size in its own field, and the file.
+// The plan of an edit that keeps the width of a form's size, by what its units come to; the form has `size` bytes
+// then. `TooLarge` is the first of these that passes its limit: the parts, the form's size in its own field, and the
+// file.
 fn plan_narrow(alloc: Global, frame: &Frame, size: u64, units: UnitCuts) -> Result<Plan, PlanFault>
     requires stands { StandsIn frame.now units }
     requires sum { size + frame.now.len ≡ spliced_len frame.now.len units.cuts.items + frame.now.size }
-    ensures plans { (b : List ℕ) (e : List EditItem) → IsBytes b → Supported b → IsFrame b frame.now → ComesTo b e units → IsListed b e → PlansKind narrow_kind b e result }
+    ensures plans { (b : List ℕ) (e : List EditItem) → IsBytes b → Supported b → IsFrame b frame.now → ComesTo b e units
+        → IsListed b e → PlansKind narrow_kind b e result }
     ensures can { IfOk result (λ p. CanRun p) }
     ensures belongs { IfOk result (λ p. (b : List ℕ) → length b ≡ frame.now.len → Belongs p b) }
     ensures reads_nothing { result ≡ Err PlanFault.Depot → ⊥ }
@@ -105,8 +107,9 @@ fn plan_narrow(alloc: Global, frame: &Frame, size: u64, units: UnitCuts) -> Resu
     }
 }
 
-/// The plan of an edit of a form, by what its units come to: a RIFF form that its own field can't tell becomes RF64. `TooLarge` is the
-/// first of these that passes its limit: the parts, the form's size where it stands in its own field, and the file.
+/// The plan of an edit of a form, by what its units come to: a RIFF form that its own field can't tell becomes RF64.
+/// `TooLarge` is the first of these that passes its limit: the parts, the form's size where it stands in its own
+/// field, and the file.
 pub fn plan_units(
     alloc: Global,
     frame: &Frame,
@@ -115,7 +118,8 @@ pub fn plan_units(
 ) -> Result<Plan, PlanFault>
     requires stands { StandsIn frame.now units }
     requires reserved { FitsReserved widening.now.reserved }
-    ensures plans { (b : List ℕ) (e : List EditItem) → IsBytes b → Supported b → IsFrame b frame.now → IsWideningOf b widening.now → ComesTo b e units → IsListed b e → PlansKind wave_kind b e result }
+    ensures plans { (b : List ℕ) (e : List EditItem) → IsBytes b → Supported b → IsFrame b frame.now
+        → IsWideningOf b widening.now → ComesTo b e units → IsListed b e → PlansKind wave_kind b e result }
     ensures can { IfOk result (λ p. CanRun p) }
     ensures belongs { IfOk result (λ p. (b : List ℕ) → length b ≡ frame.now.len → Belongs p b) }
     ensures reads_nothing { result ≡ Err PlanFault.Depot → ⊥ }

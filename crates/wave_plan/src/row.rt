@@ -24,9 +24,10 @@ use part_tree::{Plan, PlanFault};
 use std::alloc::Global;
 use unit_plan::{Place, unit_cuts};
 
-/// The plan of an edit of a form that stands there, whose chunks behind `ds64` have these places, from the byte `from` up to the
-/// byte `end` of the file. A RIFF form that its own field can't tell becomes RF64. `TooLarge` is the first of these that passes its
-/// limit: the parts, the form's size where it stands in its own field, and the file. `Depot` only where the count of the depot's faults rose.
+/// The plan of an edit of a form that stands there, whose chunks behind `ds64` have these places, from the byte `from`
+/// up to the byte `end` of the file. A RIFF form that its own field can't tell becomes RF64. `TooLarge` is the first
+/// of these that passes its limit: the parts, the form's size where it stands in its own field, and the file. `Depot`
+/// only where the count of the depot's faults rose.
 pub fn plan_row<D: Depot>(
     alloc: Global,
     depot: &mut D,
@@ -42,8 +43,10 @@ pub fn plan_row<D: Depot>(
     requires reserved { FitsReserved widening.now.reserved }
     requires low { 12 ≤ from }
     requires high { end ≤ form.end }
-    ensures plans { (b : List ℕ) (e : List EditItem) → Holds (D.disk depot.old) b → IsBytes b → from ≡ children_at (wave_of b) → IsWideningOf b widening.now
-        → map (shape_in b) places.now ≡ map (shape_of part_count) (edited_cells b e) → IsListed b e → PlansKind wave_kind b e result }
+    ensures plans { (b : List ℕ) (e : List EditItem) → Holds (D.disk depot.old) b → IsBytes b
+        → from ≡ children_at (wave_of b) → IsWideningOf b widening.now
+        → map (shape_in b) places.now ≡ map (shape_of part_count) (edited_cells b e)
+        → IsListed b e → PlansKind wave_kind b e result }
     ensures can { IfOk result (λ p. CanRun p) }
     ensures belongs { (b : List ℕ) → Holds (D.disk depot.old) b → IfOk result (λ p. Belongs p b) }
     ensures reads { ReadsOnly (D.disk depot.old) (D.disk depot.new) }

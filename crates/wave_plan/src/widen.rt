@@ -26,8 +26,8 @@ const MOST_LEN: u64 = 9_223_372_036_854_775_807;
 
 const LEAST_DS64: u64 = 28;
 
-/// What a form that becomes RF64 tells in its `ds64`: the bytes in the body of the `JUNK` that is reserved for it, directly behind
-/// the form's type, the body of `data`, and the bytes of a block.
+/// What a form that becomes RF64 tells in its `ds64`: the bytes in the body of the `JUNK` that is reserved for it,
+/// directly behind the form's type, the body of `data`, and the bytes of a block.
 #[derive(Clone, Copy, Debug, PartialEq, Eq)]
 pub struct Widening {
     pub reserved: Option<u64>,
@@ -63,7 +63,8 @@ fn count_of(widening: &Widening) -> u64
         .unwrap_or(0)
 }
 
-// The span of `ds64` with the size of the form: that of the reserved `JUNK`, whose pad stays, or none at the same place.
+// The span of `ds64` with the size of the form: that of the reserved `JUNK`, whose pad stays, or none at the same
+// place.
 fn ds64_cut(alloc: Global, widening: &Widening, size: u64) -> Result<CutAt, NoMemory>
     requires { FitsReserved widening.now.reserved }
     ensures { IfOk result (λ k. k ≡ ds64_at widening.now size) }
@@ -142,8 +143,8 @@ fn put_cut(cuts: &mut Vec<CutAt>, cut: CutAt) -> Result<(), NoMemory>
     Ok(())
 }
 
-// The spans of an edit that makes a form RF64: of the header, of `ds64`, of the units with the size of `data`, and of the form's
-// pad. Without the change of its form it would have `size` bytes, and has `riff_size` now.
+// The spans of an edit that makes a form RF64: of the header, of `ds64`, of the units with the size of `data`, and of
+// the form's pad. Without the change of its form it would have `size` bytes, and has `riff_size` now.
 fn widened_cuts(
     alloc: Global,
     frame: &Frame,
@@ -211,8 +212,8 @@ fn more_bytes(reserved: Option<u64>) -> u64
     }
 }
 
-/// The plan of an edit that makes a RIFF form RF64, by what its units come to: without the change of the form, it would have `size`
-/// bytes. `TooLarge` is the first of these that passes its limit: the parts and the file.
+/// The plan of an edit that makes a RIFF form RF64, by what its units come to: without the change of the form, it
+/// would have `size` bytes. `TooLarge` is the first of these that passes its limit: the parts and the file.
 pub fn plan_widened(
     alloc: Global,
     frame: &Frame,
@@ -222,7 +223,8 @@ pub fn plan_widened(
 ) -> Result<Plan, PlanFault>
     requires stands { StandsIn frame.now units }
     requires reserved { FitsReserved widening.now.reserved }
-    ensures plans { (b : List ℕ) (e : List EditItem) → IsBytes b → Supported b → IsFrame b frame.now → IsWideningOf b widening.now → ComesTo b e units → IsListed b e
+    ensures plans { (b : List ℕ) (e : List EditItem) → IsBytes b → Supported b → IsFrame b frame.now
+        → IsWideningOf b widening.now → ComesTo b e units → IsListed b e
         → size ≡ new_size_of b e → widens b e ≡ true → PlansKind wave_kind b e result }
     ensures can { IfOk result (λ p. CanRun p) }
     ensures belongs { IfOk result (λ p. (b : List ℕ) → length b ≡ frame.now.len → Belongs p b) }
