@@ -17,8 +17,8 @@ pub use files::{
 pub use rows::{Held, Row, goes};
 pub use runs::{Ran, depot_of, holds, paper, run_on, run_told, words_of};
 pub use sparse::{
-    FULL_WIDENED, HELLO, HI, ROOMY_WIDENED, WIDE_SOUND, five_gigabytes, full_wave, has_len,
-    narrow_wave, roomy_wave, shows,
+    FULL_WIDENED, HELLO, HI, ROOMY_WIDENED, WIDE_SOUND, cut_and_lengthened, five_gigabytes,
+    full_wave, has_len, narrow_wave, roomy_wave, shows,
 };
 pub use stops::{
     NO_EDIT, RECOVER, calls_of, is_done_within, is_recovered, pick_of, plain, stop, stopped,

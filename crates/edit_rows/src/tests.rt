@@ -6,8 +6,8 @@ use crate::files::{
 use crate::rows::{Held, Row, goes};
 use crate::runs::{depot_of, holds, paper, run_on, run_told, words_of};
 use crate::sparse::{
-    FULL_WIDENED, HELLO, HI, ROOMY_WIDENED, WIDE_SOUND, five_gigabytes, full_wave, has_len,
-    narrow_wave, roomy_wave, shows,
+    FULL_WIDENED, HELLO, HI, ROOMY_WIDENED, WIDE_SOUND, cut_and_lengthened, five_gigabytes,
+    full_wave, has_len, narrow_wave, roomy_wave, shows,
 };
 use crate::stops::{NO_EDIT, RECOVER, calls_of, plain, survives, survives_twice, tells_the_fault};
 use me_disk::FailAt;
@@ -494,7 +494,18 @@ fn a_wave_file_that_passes_four_gigabytes_becomes_rf64(rt: HostRuntime) -> Resul
     assert!(rt; has_len(&mut depot, 4_294_967_348));
     assert!(rt; shows(&mut depot, 0, FULL_WIDENED));
     assert!(rt; shows(&mut depot, 48, WIDE_SOUND));
+    assert!(rt; shows(&mut depot, 80, &[7; 64]));
+    assert!(rt; shows(&mut depot, 5_076, b"\x07\x07\x07\x07\0\0\0\0"));
     assert!(rt; shows(&mut depot, 4_294_967_324, HI));
+    Ok(())
+}
+
+#[test]
+fn a_cut_takes_all_bytes_behind_it(rt: HostRuntime) -> Result<(), Fail> {
+    let mut depot = full_wave(rt.alloc())?;
+    assert!(rt; cut_and_lengthened(&mut depot).is_ok());
+    assert!(rt; shows(&mut depot, 98, b"\x07\x07\0\0x"));
+    assert!(rt; has_len(&mut depot, 103));
     Ok(())
 }
 

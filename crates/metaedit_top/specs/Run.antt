@@ -1,12 +1,12 @@
 -- How a run ends: what it leaves of the file and of what a crash may leave, what it tells, and why it stops.
-use Rattle.std.specs.Prelude.{◌≡◌, ◌⊎◌, ℕ, ◌+◌, ◌≤◌, Bool, true, false, IsTrue, is_some, List, length, take, Option, Some, None, Ok, ⊤}
+use Rattle.std.specs.Prelude.{◌≡◌, ◌⊎◌, ℕ, ◌+◌, ◌≤◌, Bool, true, false, IsTrue, is_some, List, length, take, Option, Some, None, Result, Ok, IfOk, IfErr, OnOk, ⊤}
 use Rattle.std.specs.Io.KnownBytes.{Appends}
 use Rattle.me_bytes.specs.Bytes.{IsBytes}
 use Rattle.me_disk.specs.Causes.{Rose}
 use Rattle.me_disk.specs.Disk.{Disk, Image, Leaves, Only, read_as, bytes_of}
 use Rattle.me_disk.specs.Steps.{ReadsOnly}
 use Rattle.me_disk.specs.Holds.{Holds}
-use Rattle.edit_journal.specs.Settled.{Settles, StandsAlone}
+use Rattle.edit_journal.specs.Settled.{IsDamaged, Settles, StandsAlone}
 use Rattle.recovery.specs.Recovered.{IsBroken, bytes_to_redo}
 use Rattle.recovery.specs.Redo.{SettlesAlike}
 use Rattle.part_tree.specs.declared.field.Broken.{Broken}
@@ -102,7 +102,7 @@ Stops q old new (stop.NotSupported w) = (reads_file q.command ≡ true) × OnFil
 Stops q old new (stop.RuleBroken b) = (edits_file q.command ≡ true) × OnFile old (λ o. IsRefused q o b)
 Stops q old new (stop.TooLarge size limit) =
     (edits_file q.command ≡ true) × OnFile old (λ o. IsBytes o → IsTooLarge q o (record { size = size; limit = limit }))
-Stops q old new stop.Memory = ⊤
+Stops q old new stop.Memory = new.faults ≡ old.faults
 
 -- at most the bytes of the run were written
 abbrev pub WroteAtMost : Request → Disk → Disk → Type 0
@@ -202,3 +202,20 @@ printed _ = false
 abbrev pub IsOneAgain : Outcome → Disk → Type 0
 IsOneAgain (outcome.DepotFault n) new = ⊤
 IsOneAgain _ new = Only (read_as new.slots) new
+
+-- ---- a run up to its output
+
+-- What it answers and leaves: it came to its end and is told, or it stopped for a cause; what a crash at any moment leaves; and
+-- that what the depot reads as is again its one image.
+pub record Runs (q : Request) (old new : Disk) (r : Result Finished Stop) : Type 0 where
+  pub ends : IfOk r (λ f. OnFile old (λ o. IsBytes o
+      → HasRun q o (bytes_to_redo (read_as old.slots)) old new × HasTold q o (has_journal old) f))
+  pub fixes : IfOk r (λ f. Fixes q.command f.summary)
+  pub stops : IfErr r (Stops q old new)
+  pub leaves : IfErr r (LeavesAt q old new)
+  pub crash : (i : Image) → new.since old.clock i → MayStand q old i
+  pub damaged : IsTrue old.tells → IsDamaged (read_as old.slots) → ReadsOnly old new
+  pub again_done : OnOk r (Only (read_as new.slots) new)
+  pub again : IfErr r (λ s. IsOneStop s new)
+  pub tells : new.tells ≡ old.tells
+  pub later : old.faults ≤ new.faults

@@ -1,5 +1,5 @@
 -- A command on a file that stands alone: what it leaves and tells, and why it stops.
-use Rattle.std.specs.Prelude.{◌≡◌, ℕ, ◌+◌, ◌≤◌, Bool, true, IsTrue, IfOk, IfErr, OnOk, List, Some, None, Result, Ok, Err}
+use Rattle.std.specs.Prelude.{◌≡◌, ℕ, ◌+◌, ◌≤◌, nat_lt, if◌then◌else◌, Bool, true, IsTrue, IfOk, IfErr, OnOk, List, Some, None, Result, Ok, Err}
 use Rattle.me_bytes.specs.Bytes.{IsBytes}
 use Rattle.me_disk.specs.Causes.{Rose}
 use Rattle.me_disk.specs.Disk.{Disk, Leaves, Only, bytes_of, read_as}
@@ -85,3 +85,10 @@ abbrev pub stop_of_recovery : RecoverFault → Stop
 stop_of_recovery recover.NoFile = stop.NoFile
 stop_of_recovery (recover.Damaged at) = stop.Damaged at
 stop_of_recovery recover.Depot = stop.Depot
+
+-- ---- want of memory
+
+-- the stop that is told, by the device's counts of faults before and after a run: a want of memory only where none rose
+abbrev pub counted : ℕ → ℕ → Stop → Stop
+counted before after stop.Memory = if nat_lt before after then stop.Depot else stop.Memory
+counted before after s = s

@@ -13,7 +13,9 @@ use Rattle.me_report.specs.Findings.{findings_text}
 use Rattle.me_report.specs.Report.{show_report}
 use Rattle.recovery.specs.declared.whole.Recovered.{Recovered}
 use Rattle.recovery.specs.declared.whole.Recovered.TheVariants.{Nothing, Redone}
+use Rattle.edit_planner.specs.declared.plans.FileMap.{FileMap}
 use Rattle.edit_planner.specs.Kinds.{model_in}
+use Rattle.edit_planner.specs.Plan.{fields_in, kind_in, streams_in}
 use Rattle.metaedit_top.specs.declared.words.Command.{Command}
 use Rattle.metaedit_top.specs.declared.words.Command.TheVariants as command
 use Rattle.metaedit_top.specs.declared.words.Request.{Request}
@@ -32,6 +34,10 @@ look_summary n k = record { changed = false; in_place = false; payload = n; find
 -- what the fields of a file break as they stand
 abbrev pub findings_in : RuleSet → List ℕ → List Broken
 findings_in rules o = findings ((model_in o).kind o) ((model_in o).streams o) (fields_of o) [] rules
+
+-- and those that a map tells
+abbrev pub findings_of : FileMap → RuleSet → List Broken
+findings_of m rules = findings (kind_in m) (streams_in m) (fields_in m) [] rules
 
 -- the summary of a command on a file
 abbrev pub summary_by : Command → Request → List ℕ → Summary

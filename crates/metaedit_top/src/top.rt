@@ -5,7 +5,7 @@ ghost use Rattle.me_disk.specs.Disk.{Image, Only, read_as};
 ghost use Rattle.me_disk.specs.Steps.{ReadsOnly};
 ghost use Rattle.edit_journal.specs.Settled.{IsDamaged};
 ghost use Rattle.me_report.specs.declared.line.Summary.{Summary};
-ghost use Rattle.metaedit_top.specs.Run.{AcceptsWords, Because, Ends, EndsUnprinted, Finishes, FixesBy, HasSettled, IsOneAgain, MayStandBy, printed};
+ghost use Rattle.metaedit_top.specs.Run.{AcceptsWords, Because, Ends, EndsUnprinted, Finishes, FixesBy, IsOneAgain, MayStandBy, printed};
 ghost use Rattle.metaedit_top.specs.Words.{request};
 ghost use Rattle.metaedit_top.specs.declared.outcome.Stop.TheVariants as stop;
 ghost use Rattle.metaedit_top.specs.declared.outcome.UsageFault.{UsageFault};
@@ -19,8 +19,8 @@ use crate::words::{RequestFault, read_request};
 use me_disk::{Depot, Sink, Source};
 use std::alloc::Global;
 
-/// Does all that the program does: reads the words, settles the file that the depot holds after a crash, does with it what
-/// the words ask for, and prints the report. The words are those behind the program's name; the table is not read.
+/// Does all that the program does: reads the words, settles the file that the depot holds after a crash, does with it
+/// what the words ask for, and prints the report. The words are those behind the program's name; the table is not read.
 /// Before it a crash leaves what the depot reads as, and nothing else.
 pub fn metaedit<D: Depot, S: Source, K: Sink>(
     alloc: Global,
@@ -65,9 +65,10 @@ pub fn metaedit<D: Depot, S: Source, K: Sink>(
         → (n ≡ (D.disk depot.new).faults) × Because words.now (D.disk depot.old) (D.disk depot.new) stop.Depot }
     ensures out_fault { (edited : Bool) → result ≡ Outcome.OutFault edited
         → Rose (K.faults out.old) (K.faults out.new)
-        × EndsUnprinted words.now (D.disk depot.old) (D.disk depot.new) (K.contents out.old) (K.contents out.new) edited }
-    ensures memory { result ≡ Outcome.Memory
-        → (depot.new ≡ depot.old) ⊎ HasSettled (D.disk depot.old) (D.disk depot.new) }
+        × EndsUnprinted words.now (D.disk depot.old) (D.disk depot.new)
+        (K.contents out.old) (K.contents out.new) edited }
+    ensures memory { result ≡ Outcome.Memory → (depot.new ≡ depot.old)
+        ⊎ Because words.now (D.disk depot.old) (D.disk depot.new) stop.Memory }
 
     // Where nothing stands against it and nothing fails, the run comes to its end.
     ensures complete { AcceptsWords words.now (D.disk depot.old)
