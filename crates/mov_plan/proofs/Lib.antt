@@ -8,3 +8,5 @@ pub mod Joined
 pub mod Texts
 pub mod Changed
 pub mod Items
+pub mod Moved
+pub mod Made

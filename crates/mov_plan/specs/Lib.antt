@@ -3,3 +3,9 @@ pub mod Rows
 pub mod Places
 pub mod Edits
 pub mod Users
+pub mod Tables
+pub mod Made
+pub mod Frame
+pub mod Keyed
+pub mod Moved
+pub mod Planned

@@ -12,17 +12,29 @@ ghost use Rattle.mov_plan.specs.Edits.{IsEditOf, beyond_of, edited_cells};
 ghost use Rattle.mov_plan.specs.Rows.{none, row};
 ghost use Rattle.mov_plan.specs.Shapes.{shapes};
 
+mod frame;
+mod keys;
+mod moves;
 mod place;
+mod plan;
 mod row;
+mod tables;
 #[cfg(test)]
 mod tests;
 mod unit;
 mod user;
+mod widen;
 
+use field_model as _;
+pub use frame::MoovAt;
+pub use keys::{KeyChange, KeysFault, edit_keys, new_keys};
 use mov_model as _;
 pub use place::{Behind, Place};
+pub use plan::plan_movie;
 use qt_text as _;
 pub use row::{Units, unit_cuts};
+use sample_tables as _;
+pub use tables::{TableAt, segments_with};
 pub use unit::{FilledUnit, OpenUnit};
 pub use user::{UserBody, UserChange, UserFault, UserItem, UserItems, edit_user};
 
