@@ -234,7 +234,8 @@ fn stream_name(text: &[u8]) -> Option<FieldName>
 
 // What stands behind a word. None where the text doesn't begin with it.
 fn behind<'a>(word: &[u8], text: &'a [u8]) -> Option<&'a [u8]>
-    ensures { option_copied result ≡ (if bytes_eq (take (length word.now) text.now) word.now then Some (drop (length word.now) text.now) else None) }
+    ensures { option_copied result ≡
+        (if bytes_eq (take (length word.now) text.now) word.now then Some (drop (length word.now) text.now) else None) }
 {
     if text.len() < word.len() || &text[..word.len()] != word {
         return None;

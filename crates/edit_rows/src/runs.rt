@@ -38,7 +38,8 @@ pub fn depot_of(
     journal: Option<&[u8]>,
     failing: &[FailAt],
 ) -> Result<MemoryDepot, NoMemory>
-    ensures slots { IfOk result (λ d. (memory_disk d).slots ≡ record { main = option_copied main.entry; journal = option_copied journal.entry; work = None }) }
+    ensures slots { IfOk result (λ d. (memory_disk d).slots
+        ≡ record { main = option_copied main.entry; journal = option_copied journal.entry; work = None }) }
     ensures only { IfOk result (λ d. Only (read_as (memory_disk d).slots) (memory_disk d)) }
 {
     let main = owned(alloc, main)?;
@@ -71,7 +72,8 @@ pub fn run_on<D: Depot>(
     out: &mut MemorySink,
 ) -> Outcome
     requires { Only (read_as (D.disk depot.old).slots) (D.disk depot.old) }
-    ensures { (i : Image) → (D.disk depot.new).since (D.disk depot.old).clock i → MayStandBy words.now (D.disk depot.old) i }
+    ensures { (i : Image) → (D.disk depot.new).since (D.disk depot.old).clock i
+        → MayStandBy words.now (D.disk depot.old) i }
 {
     let mut table = MemorySource::new(Vec::new(alloc), Vec::new(alloc));
     metaedit(alloc, words, depot, &mut table, out)
@@ -87,7 +89,8 @@ pub struct Ran {
 /// A run whose words are these texts.
 pub fn run_told<D: Depot>(alloc: Global, texts: &[&str], depot: &mut D) -> Result<Ran, NoMemory>
     requires { Only (read_as (D.disk depot.old).slots) (D.disk depot.old) }
-    ensures { (i : Image) → (D.disk depot.new).since (D.disk depot.old).clock i → MayStandBy (map (λ text. text.now) texts.now) (D.disk depot.old) i }
+    ensures { (i : Image) → (D.disk depot.new).since (D.disk depot.old).clock i
+        → MayStandBy (map (λ text. text.now) texts.now) (D.disk depot.old) i }
 {
     let words = words_of(alloc, texts)?;
     let mut out = paper(alloc, &[])?;
@@ -97,7 +100,8 @@ pub fn run_told<D: Depot>(alloc: Global, texts: &[&str], depot: &mut D) -> Resul
 
 /// Whether the depot holds this file and this journal, and no work file.
 pub fn holds(depot: &MemoryDepot, main: Option<&[u8]>, journal: Option<&[u8]>) -> bool
-    ensures { IsTrue result ↔ ((memory_disk depot.now).slots ≡ record { main = option_copied main.entry; journal = option_copied journal.entry; work = None }) }
+    ensures { IsTrue result ↔ ((memory_disk depot.now).slots
+        ≡ record { main = option_copied main.entry; journal = option_copied journal.entry; work = None }) }
 {
     has(depot, Slot::Main, main)
         && has(depot, Slot::Journal, journal)

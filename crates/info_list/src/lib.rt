@@ -189,7 +189,8 @@ pub fn lists_are_edited()
         → chunks_of new ≡ put_all info_items e (chunks_of old) → new.rest ≡ old.rest → list_chunk new ≡ edit_carrier info info_items e c }
     ensures fresh { (e : List (Item (List ℕ))) (new : InfoList) → chunks_of new ≡ put_all info_items e [] → new.rest ≡ []
         → list_chunk new ≡ info.fresh (put_all info_items e []) }
-    ensures marks { (c : Chunk) (list : InfoList) → IsInfo (drop 4 c.body) list → tokens_of list ≡ items_of info info_items c }
+    ensures marks { (c : Chunk) (list : InfoList) → IsInfo (drop 4 c.body) list
+        → tokens_of list ≡ items_of info info_items c }
 {}
 
 /// What is spelled is read back: behind the word `INFO` of the spelling stand the items and the rest, whatever these are.

@@ -57,7 +57,8 @@ fn text_len(body: &[u8], at: usize) -> Option<usize>
 // The text at a place, of so many bytes.
 fn read_text(alloc: Global, body: &[u8], at: usize, len: usize) -> Result<Value, NoMemory>
     requires { at + 4 + len ≤ length body.now }
-    ensures { IfOk result (λ text. text ≡ record { lang = text_language (drop at body.now); raw = take len (drop 4 (drop at body.now)) }) }
+    ensures { IfOk result (λ text. text
+        ≡ record { lang = text_language (drop at body.now); raw = take len (drop 4 (drop at body.now)) }) }
 {
     let lang = number_at(body, at + 2);
     let raw = Bytes::new(alloc, &body[at + 4..at + 4 + len])?;

@@ -92,7 +92,8 @@ fn read_items<D: Depot>(
     requires place { chunk.now.at + 8 ≤ chunk.now.body.at }
     requires long { 4 ≤ chunk.now.body.len }
     requires few { parts < 65536 }
-    ensures items { (b : List ℕ) → Holds (D.disk depot.old) b → is_info (chunk_in b riff chunk.now) ≡ true → ReadsFields (chunk_in b riff chunk.now) chunk.now.at parts fields.old fields.new result }
+    ensures items { (b : List ℕ) → Holds (D.disk depot.old) b → is_info (chunk_in b riff chunk.now) ≡ true
+        → ReadsFields (chunk_in b riff chunk.now) chunk.now.at parts fields.old fields.new result }
     ensures ranges { OnOk result (KeepsRanges Role.Info fields.old fields.new) }
     ensures keys { OnOk result (KeepsKeys fields.old fields.new) }
     ensures few { IfOk result (λ n. (0 < n) × (parts + n ≤ 65536)) }
@@ -138,7 +139,10 @@ fn read_whole<D: Depot>(
     requires inside { Inside (chunk.now.body.at + chunk.now.body.len) (D.disk depot.old) }
     requires small { chunk.now.body.at + chunk.now.body.len < 2 ^ 63 }
     requires name { one_of whole_ids chunk.now.id.0 ≡ true }
-    ensures value { (b : List ℕ) → Holds (D.disk depot.old) b → OnOk result (Adds fields.old fields.new (FieldName.Whole chunk.now.id) (plain (slice b chunk.now.body.at chunk.now.body.len))) }
+    ensures value { (b : List ℕ) → Holds (D.disk depot.old) b
+        → OnOk result
+        (Adds fields.old fields.new (FieldName.Whole chunk.now.id)
+        (plain (slice b chunk.now.body.at chunk.now.body.len))) }
     ensures ranges { OnOk result (KeepsRanges Role.Whole fields.old fields.new) }
     ensures keys { OnOk result (KeepsKeys fields.old fields.new) }
     ensures why { IfErr result (λ fault. IsNoWhy fault) }
@@ -166,7 +170,8 @@ fn read_bext<D: Depot>(
     requires inside { Inside (chunk.now.body.at + chunk.now.body.len) (D.disk depot.old) }
     requires small { chunk.now.body.at + chunk.now.body.len < 2 ^ 63 }
     requires long { 602 ≤ chunk.now.body.len }
-    ensures values { (b : List ℕ) → Holds (D.disk depot.old) b → OnOk result (Grows fields.old fields.new (ranges_below 15 (slice b chunk.now.body.at chunk.now.body.len))) }
+    ensures values { (b : List ℕ) → Holds (D.disk depot.old) b
+        → OnOk result (Grows fields.old fields.new (ranges_below 15 (slice b chunk.now.body.at chunk.now.body.len))) }
     ensures ranges { OnOk result (KeepsRanges Role.Bext fields.old fields.new) }
     ensures keys { OnOk result (KeepsKeys fields.old fields.new) }
     ensures why { IfErr result (λ fault. IsNoWhy fault) }
@@ -199,7 +204,9 @@ pub fn read_fields<D: Depot>(
     requires whole { role ≡ Role.Whole → one_of whole_ids chunk.now.id.0 ≡ true }
     requires long { role ≡ Role.Bext → 602 ≤ chunk.now.body.len }
     requires few { parts < 65536 }
-    ensures fields { (b : List ℕ) → Holds (D.disk depot.old) b → (wide : Bool) → role ≡ role_of (chunk_in b (form_kind wide) chunk.now) → ReadsFields (chunk_in b (form_kind wide) chunk.now) chunk.now.at parts fields.old fields.new result }
+    ensures fields { (b : List ℕ) → Holds (D.disk depot.old) b → (wide : Bool)
+        → role ≡ role_of (chunk_in b (form_kind wide) chunk.now)
+        → ReadsFields (chunk_in b (form_kind wide) chunk.now) chunk.now.at parts fields.old fields.new result }
     ensures ranges { OnOk result (KeepsRanges role fields.old fields.new) }
     ensures keys { OnOk result (KeepsKeys fields.old fields.new) }
     ensures few { IfOk result (λ n. (0 < n) × (parts + n ≤ 65536)) }
