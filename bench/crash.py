@@ -1,6 +1,6 @@
 #!/usr/bin/env python3
-"""Kills `metaedit` (SIGKILL) at random moments of edits in place, of rewrites and of recoveries on the real disk, runs `recover`,
-and compares the file with the old one and the new one, byte for byte. It ends with status 1 where the file is neither.
+"""Kills `metaedit` (SIGKILL) at random moments of edits in place, of rewrites, of recoveries and of batches on the real disk, runs
+`recover`, and compares each file with its old one and its new one, byte for byte. It ends with status 1 where a file is neither.
 
 It is a test and no proof: some hundred moments of all there are, and a killed process leaves what it wrote in the system's cache,
 so nothing is shown of a loss of power. (The tests of the crate `power_rows` cut it, over a folder in memory.)
@@ -148,6 +148,97 @@ class Bench:
         return new, self.runs(name, count, "set", words, old, None, {"old": old, "new": new})
 
 
+class Batch:
+    """Batches of 64 files of every kind that the program makes: in place, rewritten, and idle."""
+
+    WORDS = ["batch", "INAM=" + "x" * 256]
+
+    def __init__(self, program, folder):
+        self.program = program
+        self.folder = folder
+        self.olds = []
+        listed = chunk(b"LIST", b"INFO" + chunk(b"INAM", b"Hi\0"))
+        sound = chunk(b"data", random.randbytes(40_000))
+        self.add("in-place", wave(FORMAT, listed, chunk(b"JUNK", bytes(1016)), sound))
+        self.add("rewrite", wave(FORMAT, listed, sound))
+        for kind in ("avi", "mov"):
+            self.add_made(kind)
+
+    def add(self, how, old):
+        self.olds.append((how, old))
+
+    def add_made(self, kind):
+        path = os.path.join(self.folder, "made." + kind)
+        child = subprocess.run([self.program, "make", path, kind, "8"], stdin=subprocess.DEVNULL, capture_output=True)
+        if child.returncode == 0:
+            self.add("any", read(path))
+            os.remove(path)
+        else:
+            print(f"batch: no {kind} files, {child.stderr.decode().strip()}")
+
+    def paths(self):
+        return [os.path.join(self.folder, f"b{k}.file") for k in range(64)]
+
+    def old(self, k):
+        return self.olds[k % len(self.olds)][1]
+
+    def lay(self):
+        for k, path in enumerate(self.paths()):
+            for companion in (path + ".mej", path + ".met"):
+                if os.path.exists(companion):
+                    os.remove(companion)
+            with open(path, "wb") as file:
+                file.write(self.old(k))
+        os.sync()
+
+    def start(self):
+        return subprocess.Popen(
+            [self.program, *self.WORDS, *self.paths()], stdin=subprocess.DEVNULL, stdout=subprocess.PIPE, stderr=subprocess.STDOUT)
+
+    def whole(self):
+        """A batch that nobody kills: its seconds. The new files are kept."""
+        self.lay()
+        begin = time.monotonic()
+        child = self.start()
+        printed = child.communicate()[0].decode().splitlines()
+        seconds = time.monotonic() - begin
+        if child.returncode != 0 or printed[-1] != "files 64 done 64":
+            raise Mismatch(f"batch answers {child.returncode} {printed[-1]!r}")
+        for k, line in enumerate(printed[:-1]):
+            how = self.olds[k % len(self.olds)][0]
+            if how != "any" and f" done changed {how} essence " not in line:
+                raise Mismatch(f"batch prints {line!r}")
+        self.news = [read(path) for path in self.paths()]
+        return seconds
+
+    def recovered(self, k, path):
+        child = subprocess.run([self.program, "recover", path], stdin=subprocess.DEVNULL, capture_output=True)
+        if child.returncode != 0:
+            raise Mismatch(f"batch: recover of {path} answers {child.returncode}")
+        after = read(path)
+        if after not in (self.old(k), self.news[k]):
+            raise Mismatch(f"batch: {path} is neither its old file nor its new one")
+        return after == self.news[k], child.stdout == b"recovered redone\n"
+
+    def runs(self, count):
+        longest = sorted(self.whole() for _ in range(3))[1] * 1.1
+        tally = dict.fromkeys(["killed", "new", "old", "redone"], 0)
+        for _ in range(count):
+            self.lay()
+            begin = time.monotonic()
+            child = self.start()
+            time.sleep(max(0.0, begin + random.uniform(0.0, longest) - time.monotonic()))
+            child.kill()
+            child.communicate()
+            tally["killed"] += child.returncode == -9
+            for k, path in enumerate(self.paths()):
+                new, redone = self.recovered(k, path)
+                tally["new" if new else "old"] += 1
+                tally["redone"] += redone
+        print(f"batch of 64 files: {count} runs of {longest * 1000 / 1.1:.0f} ms, {tally['killed']} killed before the end; "
+              f"of all files {tally['redone']} redone; then {tally['old']} old, {tally['new']} new", flush=True)
+
+
 def all_runs(bench, count):
     sound = random.randbytes(4_000_000)
     description = ["Description=" + "x" * 256]
@@ -172,6 +263,10 @@ def main():
     folder = tempfile.mkdtemp(prefix=".bench.", dir=sys.argv[2] if len(sys.argv) > 2 else TOP)
     try:
         all_runs(Bench(program, folder), count)
+        if b"UnknownCommand" in subprocess.run([program, "batch"], stdin=subprocess.DEVNULL, capture_output=True).stderr:
+            print("batch: skipped, the program doesn't know it yet")
+        else:
+            Batch(program, folder).runs(count)
     except Mismatch as fault:
         print(f"MISMATCH {fault}")
         return 1

@@ -1,8 +1,9 @@
 #!/bin/sh
 # Times `metaedit` on a WAVE file of 1 GiB, in one run, each beside the plainest program that does the same (bench/plain.c): an edit
-# in place beside one that journals and syncs, a rewrite beside a copy with fsync and rename, `md5` beside md5sum. It prints medians,
-# least and most, the ratio of the medians, and the most memory that the editor used. Figures of one machine and one disk, and no
-# proof; nothing is promised of time or memory. What the program doesn't know yet is skipped with a line.
+# in place beside one that journals and syncs, a rewrite beside a copy with fsync and rename, `md5` beside md5sum; and on 1,000 small
+# files a batch of 64 a call beside one call a file. It prints medians, least and most, the ratio of the medians, and the most memory
+# that the editor used. Figures of one machine and one disk, and no proof; nothing is promised of time or memory. What the program
+# doesn't know yet is skipped with a line.
 #   bench/speed.sh [FOLDER]     FOLDER is on the disk to be measured and has 2 GiB free; else a new one beside this clone
 # METAEDIT names a built program; else the script `metaedit` builds it. EDITS (101) and COPIES (3) say how often each is timed.
 set -eu
@@ -110,8 +111,43 @@ if known md5; then
     echo "md5: $(seconds md5)"
     echo "    md5sum: $(seconds md5sum), ratio $(ratio md5 md5sum)"
 fi
+if known batch; then
+    # 1,000 files of 4 KiB of sound with room for the title
+    mkdir small
+    {
+        printf 'RIFF\044\024\000\000WAVEfmt \020\000\000\000\001\000\001\000\104\254\000\000\210\130\001\000\002\000\020\000'
+        printf 'JUNK\370\003\000\000'
+        head -c 1016 /dev/zero
+        printf 'data\000\020\000\000'
+        head -c 4096 /dev/zero
+    } >small.wav
+    k=0
+    while [ $k -lt 1000 ]; do
+        cp small.wav small/$k.wav
+        k=$((k + 1))
+    done
+    cat >each.sh <<'EACH'
+for file in small/*.wav; do
+    "$1" "$2" "$file" "$3" || exit 1
+done
+EACH
+    cat >journal.sh <<'EACH'
+for file in small/*.wav; do
+    "$1" journal "$file" 44 "$2" || exit 1
+done
+EACH
+    for k in 1 2 3; do
+        timed shelf sh -c 'ls small/*.wav | xargs -n 64 "$1" batch "INAM=$2"' sh "$program" "batch number $k"
+        [ "$(grep -c ' done changed in-place ' printed)" = 1000 ] || wrong "$(tail -n 1 printed)"
+        timed each sh each.sh "$program" set "INAM=edit number $k"
+        timed loop sh journal.sh "$plain" "plain journal $k"
+    done
+    echo "1,000 small files, 64 a call: $(seconds shelf)"
+    echo "    one call a file: $(seconds each), ratio $(ratio shelf each) (goal 0.5)"
+    echo "    a shell loop of the plain journal: $(seconds loop), ratio $(ratio shelf loop)"
+fi
 set --
-for list in place rewrite show md5; do
+for list in place rewrite show md5 shelf; do
     [ ! -e $list ] || set -- "$@" $list
 done
 echo "most memory of the editor: $(memory "$@") KiB (goal under 8192)"

@@ -24,10 +24,11 @@ use Rattle.avi_model.specs.Avi.{avi_of, body_span, hdrls, strls}
 use Rattle.avi_model.specs.Edited.{fields}
 use Rattle.avi_model.specs.Map.{parts_of}
 use Rattle.avi_model.specs.Support.{ListEnds as Whole, infos}
-use Rattle.avi_model.specs.Why.{why}
-use Rattle.avi_model.proofs.Exact.{exact}
+use Rattle.avi_model.specs.Why.{why_named}
+use Rattle.avi_model.proofs.NamesExact.{names_exact}
 use Rattle.avi_model.proofs.Sound.{all_right}
-use Rattle.avi_file.specs.Fields.{Grows, ListEnds, ReadsLists, behind_info, infos_of, lists_held}
+use Rattle.info_list.specs.Fields.{Grows}
+use Rattle.avi_file.specs.Fields.{ListEnds, ReadsLists, behind_info, infos_of, lists_held}
 use Rattle.avi_file.specs.Map.{ReadsFields}
 use Rattle.avi_file.proofs.Homes.{AtHome, AllHome, infos_home, top_home}
 use Rattle.avi_file.proofs.Parted.{info_parts}
@@ -67,24 +68,17 @@ whole_here : (b : List ℕ) (xs : List Stood) → AllHome b xs → AllByRecursio
 whole_here b [] h all = tt
 whole_here b (x ∷ xs) h all = (ap (λ (y : List ℕ). (items_run y).stop) (behind_here b x h.0) ∙ all.0, whole_here b xs h.1 all.1)
 
-lists_whole : (b : List ℕ) → why b ≡ None → AllByRecursion (ListEnds b) (map body_span (infos (avi_of b)))
+lists_whole : (b : List ℕ) → why_named b ≡ None → AllByRecursion (ListEnds b) (map body_span (infos (avi_of b)))
 lists_whole b e =
     let a = avi_of b in
-    let s = (exact b).0 e in
+    let s = ((names_exact b).0 e).file in
     whole_here b (infos a) (infos_home b) (all_right Whole (strls a) (infos a) (all_right Whole (hdrls a) (strls a ++ infos a) s.lists_end))
 
 -- the lists that the parts tell
-same_lists : (b : List ℕ) (ps : List Part) (ss : List Span) → ps ≡ parts_of b → ss ≡ infos_of ps → ss ≡ map body_span (infos (avi_of b))
+pub same_lists : (b : List ℕ) (ps : List Part) (ss : List Span) → ps ≡ parts_of b → ss ≡ infos_of ps → ss ≡ map body_span (infos (avi_of b))
 same_lists b ps ss parts lists = lists ∙ ap infos_of parts ∙ info_parts b
 
-pub fields_read : (b : List ℕ) (ps : List Part) (ss : List Span) (old new : List Entry) → ps ≡ parts_of b → ss ≡ infos_of ps → old ≡ [] → Grows old new (lists_held b ss) → (n : FieldName) → values new n ≡ fields b n
-fields_read b ps ss old new parts lists none grown n =
-    grown n
-    ∙ ap (λ (es : List Entry). values es n ++ lists_held b ss n) none
-    ∙ ap (λ (xs : List Span). lists_held b xs n) (same_lists b ps ss parts lists)
-    ∙ fields_here b n
-
-pub fields_fail : (b : List ℕ) (ps : List Part) (ss : List Span) (old new : List Entry) (fault : ReadFault) → ps ≡ parts_of b → ss ≡ infos_of ps → why b ≡ None → ReadsLists b ss old new (Err fault) → ReadsFields b (Err fault)
+pub fields_fail : (b : List ℕ) (ps : List Part) (ss : List Span) (old new : List Entry) (fault : ReadFault) → ps ≡ parts_of b → ss ≡ infos_of ps → why_named b ≡ None → ReadsLists b ss old new (Err fault) → ReadsFields b (Err fault)
 fields_fail b ps ss old new (Fault.Why w) parts lists none h = h (subst (AllByRecursion (ListEnds b)) (sym (same_lists b ps ss parts lists)) (lists_whole b none))
 fields_fail b ps ss old new Fault.Depot parts lists none h = tt
 fields_fail b ps ss old new Fault.Memory parts lists none h = tt

@@ -15,7 +15,7 @@ use Rattle.riff_form.specs.declared.ChunkAt.{ChunkAt}
 use Rattle.riff_form.specs.declared.StepFault.TheVariants as step
 use Rattle.riff_form.specs.Walk.{chunk_in, row}
 use Rattle.avi_model.specs.Avi.{avi_front, avi_of, forms, hdrls, is_movi}
-use Rattle.avi_model.specs.Reading.{form_steps, end_at, reading}
+use Rattle.avi_model.specs.Reading.{name_steps, form_steps_by, end_at, named_reading}
 use Rattle.avi_model.specs.Support.{begins, movis}
 use Rattle.avi_model.specs.Why.{steps_tests, list_tests}
 use Rattle.avi_file.specs.declared.list.Reading.{Reading}
@@ -32,16 +32,16 @@ kind_then : (b : List ℕ) (later : Option Why) → begins b ≡ true → (if no
 kind_then b later e = ap (λ (t : Bool). if not t then Some UnknownKind else later) e
 
 pub first_kind : (b : List ℕ) → avi_front true b ≡ too_short → first (form_tests b) ≡ Some UnknownKind
-first_kind b e = ap (λ (t : Bool). if not t then Some UnknownKind else first (steps_tests 0 (reading b))) (not_begun b e)
+first_kind b e = ap (λ (t : Bool). if not t then Some UnknownKind else first (steps_tests 0 (named_reading b))) (not_begun b e)
 
 pub first_cut : (b : List ℕ) (p : ℕ) → CutAt true b 0 (step.Truncated p) → first (form_tests b) ≡ Some (Truncated p)
 first_cut b p cut =
-    kind_then b (first (steps_tests 0 (reading b))) (begun b cut.0)
-    ∙ ap (λ (r : Run). first (steps_tests 0 (form_steps (stood 0 r.chunks) ++ end_at (length (spell_all r.chunks)) r.stop ∷ []))) cut.1
+    kind_then b (first (steps_tests 0 (named_reading b))) (begun b cut.0)
+    ∙ ap (λ (r : Run). first (steps_tests 0 (form_steps_by name_steps (stood 0 r.chunks) ++ end_at (length (spell_all r.chunks)) r.stop ∷ []))) cut.1
     ∙ ap (λ (q : ℕ). Some (Truncated q)) (sym cut.2)
 
 pub file_fails : (b : List ℕ) (old new : Reading) (w : Why) → begins b ≡ true → old.met ≡ 0 → Reads (file_told b) old new (Err (Fault.Why w)) → first (form_tests b) ≡ Some w
-file_fails b old new w kind met h = kind_then b (first (steps_tests 0 (reading b))) kind ∙ ap (λ (m : ℕ). first (steps_tests m (reading b))) (sym met) ∙ h
+file_fails b old new w kind met h = kind_then b (first (steps_tests 0 (named_reading b))) kind ∙ ap (λ (m : ℕ). first (steps_tests m (named_reading b))) (sym met) ∙ h
 
 pub first_fails : (b : List ℕ) (c : Chunk) (r : Run) (old new : Top) (fault : ReadFault) → begins b ≡ true → forms b ≡ and_then c r → old.reading.met ≡ 0 → Reads (first_told c) old.reading new.reading (Err fault) → ReadsFirst b old new (Err fault)
 first_fails b c r old new (Fault.Why w) kind is met h =
@@ -94,8 +94,8 @@ front_lists b k old now new one met none all =
     let movi : (length (movis a) == 0) ≡ not (nat_lt 0 (length (essence_of now.reading.parts.items))) =
     ap (λ (r : Run). length (only is_movi (stood 12 r.chunks)) == 0) run ∙ no_movi this now.reading.parts.items parts
     in
-    let read : first (steps_tests 0 (reading b)) ≡ None = ap (λ (m : ℕ). first (steps_tests m (reading b))) (sym met) ∙ all.tests in
+    let read : first (steps_tests 0 (named_reading b)) ≡ None = ap (λ (m : ℕ). first (steps_tests m (named_reading b))) (sym met) ∙ all.tests in
     first_append (form_tests b) (list_tests a)
-    ∙ ap (λ (x : Option Why). or_else x (first (list_tests a))) (kind_then b (first (steps_tests 0 (reading b))) one.kind ∙ read)
+    ∙ ap (λ (x : Option Why). or_else x (first (list_tests a))) (kind_then b (first (steps_tests 0 (named_reading b))) one.kind ∙ read)
     ∙ ap (λ (t : Bool). if t then Some NoHdrl else (if length (movis a) == 0 then Some NoMovi else None)) hdrl
     ∙ ap (λ (t : Bool). if not now.hdrl then Some NoHdrl else (if t then Some NoMovi else None)) movi

@@ -212,7 +212,7 @@ first_long b c cs left h long =
 
 -- ---- the tables and lists of fields in it
 
-flat_home : (b : List ℕ) (xs : List Stood) → AllHome b xs → AllHome b (flat_map kids xs)
+pub flat_home : (b : List ℕ) (xs : List Stood) → AllHome b xs → AllHome b (flat_map kids xs)
 flat_home b [] h = tt
 flat_home b (x ∷ xs) h = all_both (AtHome b) (kids x) (flat_map kids xs) (kids_home b x h.0) (flat_home b xs h.1)
 

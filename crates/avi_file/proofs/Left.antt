@@ -7,20 +7,17 @@ use Rattle.std.specs.declared.result.Result.TheVariants.{Ok, Err}
 use Rattle.std.proofs.lemmas.List.{append-nil, drop-drop, drop-take}
 use Rattle.part_tree.specs.declared.names.Span.{Span}
 use Rattle.part_tree.specs.declared.part.Part.{Part}
-use Rattle.part_tree.specs.declared.part.Role.{Role}
-use Rattle.part_tree.specs.declared.part.Role.TheVariants.{Tables, Essence}
 use Rattle.part_tree.specs.declared.why.Why.{Why}
 use Rattle.part_tree.specs.declared.why.Why.TheVariants.{Truncated}
 use Rattle.part_tree.specs.declared.why.ReadFault.{ReadFault}
 use Rattle.part_tree.specs.declared.why.ReadFault.TheVariants as Fault
 use Rattle.container_model.specs.Chunk.{Chunk, Run, Stop, riff, spell, spell_all, and_then, stopped, ends, passes, chunks}
 use Rattle.container_model.specs.Sizes.{plain, riff_front}
+use Rattle.container_model.specs.Stood.{bare}
 use Rattle.container_model.proofs.Written.{length-slice}
 use Rattle.carrier_model.specs.Info.{list_run}
 use Rattle.riff_form.specs.declared.ChunkAt.{ChunkAt}
 use Rattle.riff_form.specs.Walk.{chunk_in, row}
-use Rattle.avi_model.specs.Avi.{has_id, is_movi}
-use Rattle.avi_model.specs.Map.{role_where}
 use Rattle.avi_model.specs.Reading.{Step, parts_met}
 use Rattle.avi_model.proofs.Whys.{parts_append}
 use Rattle.container_model.specs.Tests.{first, or_else}
@@ -28,7 +25,7 @@ use Rattle.avi_model.specs.Why.{Test, step_tests, steps_tests}
 use Rattle.avi_file.specs.declared.list.Reading.{Reading}
 use Rattle.avi_file.specs.declared.kind.Inside.{Inside}
 use Rattle.avi_file.specs.declared.kind.Inside.TheVariants.{Items, Stream, Further}
-use Rattle.avi_file.specs.Walk.{is_items, role_of, Told, both, chunk_told, end_told, run_told, plain_told, ReadAll, Reads, StandsAt, none_told}
+use Rattle.avi_file.specs.Walk.{carries, role_of, Told, both, chunk_told, end_told, run_told, plain_told, ReadAll, Reads, StandsAt, none_told}
 
 -- ---- tests one behind the other
 
@@ -159,27 +156,21 @@ pub left_ended : (whole : Told) (told : ℕ → List Chunk → Told) (at : ℕ) 
 left_ended whole told at rest left old now new result none is step h =
     left_last whole (run_told told at rest) old now new result is (subst (λ (t : Told). Reads t now new result) (sym (run_last told at rest ends left none step)) h)
 
-pub plain_next : (role : Chunk → Role) (at to : ℕ) (c : Chunk) (r : Run) → at + length (spell c) ≡ to → plain_told role at (c ∷ r.chunks) ≡ both (chunk_told false (role c) at c) (plain_told role to r.chunks)
-plain_next role at to c r place = ap (λ (p : ℕ). both (chunk_told false (role c) at c) (plain_told role p r.chunks)) place
+-- what a chunk is doesn't stand in its pad
+carries_bare : (inside : Inside) (c : Chunk) → carries inside (bare c) ≡ carries inside c
+carries_bare Items c = refl
+carries_bare Stream c = refl
+carries_bare Further c = refl
+
+pub plain_next : (inside : Inside) (at to : ℕ) (c : Chunk) (r : Run) → at + length (spell c) ≡ to → plain_told inside at (c ∷ r.chunks) ≡ both (chunk_told (carries inside c) (role_of inside c) at c) (plain_told inside to r.chunks)
+plain_next inside at to c r place =
+    ap (λ (t : Bool). both (chunk_told t (role_of inside c) at c) (plain_told inside (at + length (spell c)) r.chunks)) (carries_bare inside c)
+    ∙ ap (λ (p : ℕ). both (chunk_told (carries inside c) (role_of inside c) at c) (plain_told inside p r.chunks)) place
 
 -- ---- one part
 
 pub stands_in : (b : List ℕ) (k : ChunkAt) → k.body.at + k.body.len ≤ length b → k.at + length (spell (chunk_in b riff k)) ≡ k.next → StandsAt (chunk_in b riff k) k
 stands_in b k inside next = record { id = refl; len = sym (length-slice b k.body.at k.body.len inside); next = next }
-
--- no chunk of a list that isn't opened is a list of fields
-pub no_items : (inside : Inside) (c : Chunk) → is_items (role_of inside c) ≡ false
-no_items Items c = refl
-no_items Stream c = where_no (has_id (codes "indx") c)
-  where
-    where_no : (t : Bool) → is_items (role_where t Tables) ≡ false
-    where_no true = refl
-    where_no false = refl
-no_items Further c = where_no (is_movi c)
-  where
-    where_no : (t : Bool) → is_items (role_where t Essence) ≡ false
-    where_no true = refl
-    where_no false = refl
 
 -- ---- the type of a list
 

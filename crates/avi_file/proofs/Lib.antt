@@ -17,3 +17,4 @@ pub mod Parted
 pub mod Tabled
 pub mod Staged
 pub mod Fielded
+pub mod Named

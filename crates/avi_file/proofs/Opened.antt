@@ -13,7 +13,7 @@ use Rattle.container_model.specs.Stood.{Stood, stood, bare, only}
 use Rattle.carrier_model.specs.Info.{is_type, list_run}
 use Rattle.avi_model.specs.Avi.{has_id}
 use Rattle.avi_model.specs.Map.{part, kid_parts, list_rest, stream_role, stream_parts, inside_parts, top_parts, top_role}
-use Rattle.avi_model.specs.Reading.{Step, part_at, flat_steps, stream_steps, inside_steps, top_steps}
+use Rattle.avi_model.specs.Reading.{Step, part_at, name_steps, stream_steps_by, inside_steps_by, top_steps_by}
 use Rattle.avi_file.specs.Walk.{Told, both, chunk_told, run_told, behind_type, stream_told, strl_told, opened_strl, inside_told, top_streams, top_told, opened_top, has_hdrl}
 use Rattle.avi_file.proofs.Left.{list_is, of_three}
 
@@ -38,7 +38,7 @@ behind_is b k inside place =
 
 strl_next : (t : Bool) (at to : ℕ) (c : Chunk) (cs : List Chunk)
     → record {
-      steps = (part_at false (record { at = at; chunk = bare c }) ∷ (if t then flat_steps (record { at = at; chunk = bare c }) else [])) ++ flat_map stream_steps (stood to cs);
+      steps = (part_at false (record { at = at; chunk = bare c }) ∷ (if t then name_steps (record { at = at; chunk = bare c }) else [])) ++ flat_map (stream_steps_by name_steps) (stood to cs);
       parts = part Opaque at c ∷ ((if t then kid_parts stream_role at c ++ list_rest at c else []) ++ stream_parts to cs);
       streams = map behind_type (if t then record { at = at; chunk = bare c } ∷ only (is_type (codes "strl")) (stood to cs) else only (is_type (codes "strl")) (stood to cs));
     }
@@ -49,7 +49,7 @@ strl_next false at to c cs = refl
 pub stream_next : (at to : ℕ) (c : Chunk) (r : Run) → at + length (spell c) ≡ to → stream_told at (c ∷ r.chunks) ≡ both (opened_strl at c) (stream_told to r.chunks)
 stream_next at to c r place =
     ap (λ (p : ℕ). record {
-      steps = stream_steps (record { at = at; chunk = bare c }) ++ flat_map stream_steps (stood p r.chunks);
+      steps = stream_steps_by name_steps (record { at = at; chunk = bare c }) ++ flat_map (stream_steps_by name_steps) (stood p r.chunks);
       parts = part Opaque at c ∷ ((if is_type (codes "strl") c then kid_parts stream_role at c ++ list_rest at c else []) ++ stream_parts p r.chunks);
       streams = map behind_type (if is_type (codes "strl") c then record { at = at; chunk = bare c } ∷ only (is_type (codes "strl")) (stood p r.chunks) else only (is_type (codes "strl")) (stood p r.chunks));
     }) place
@@ -57,7 +57,7 @@ stream_next at to c r place =
 
 -- ---- the first form
 
-inside_is : (h i : Bool) (at : ℕ) (c : Chunk) → (inside_steps h i (record { at = at; chunk = bare c }) ≡ (inside_told h i at c).steps) × (inside_parts h i at c ≡ (inside_told h i at c).parts)
+inside_is : (h i : Bool) (at : ℕ) (c : Chunk) → (inside_steps_by name_steps h i (record { at = at; chunk = bare c }) ≡ (inside_told h i at c).steps) × (inside_parts h i at c ≡ (inside_told h i at c).parts)
 inside_is true i at c = (refl, refl)
 inside_is false true at c = (refl, refl)
 inside_is false false at c = (refl, refl)
@@ -71,9 +71,9 @@ top_next seen indexed at to c r place =
     let seen_then = seen || is_type (codes "hdrl") c in
     let indexed_then = indexed || has_id (codes "idx1") c in
     let is = inside_is h i at c in
-    ap (λ (p : ℕ). of_three (part_at i x ∷ (inside_steps h i x ++ top_steps seen_then (stood p r.chunks))) (part (top_role indexed c) at c ∷ (inside_parts h i at c ++ top_parts seen_then indexed_then p r.chunks)) ((inside_told h i at c).streams ++ top_streams seen_then p r.chunks)) place
-    ∙ ap (λ (ss : List Step). of_three (part_at i x ∷ (ss ++ top_steps seen_then (stood to r.chunks))) (part (top_role indexed c) at c ∷ (inside_parts h i at c ++ top_parts seen_then indexed_then to r.chunks)) ((inside_told h i at c).streams ++ top_streams seen_then to r.chunks)) is.0
-    ∙ ap (λ (ps : List Part). of_three (part_at i x ∷ ((inside_told h i at c).steps ++ top_steps seen_then (stood to r.chunks))) (part (top_role indexed c) at c ∷ (ps ++ top_parts seen_then indexed_then to r.chunks)) ((inside_told h i at c).streams ++ top_streams seen_then to r.chunks)) is.1
+    ap (λ (p : ℕ). of_three (part_at i x ∷ (inside_steps_by name_steps h i x ++ top_steps_by name_steps seen_then (stood p r.chunks))) (part (top_role indexed c) at c ∷ (inside_parts h i at c ++ top_parts seen_then indexed_then p r.chunks)) ((inside_told h i at c).streams ++ top_streams seen_then p r.chunks)) place
+    ∙ ap (λ (ss : List Step). of_three (part_at i x ∷ (ss ++ top_steps_by name_steps seen_then (stood to r.chunks))) (part (top_role indexed c) at c ∷ (inside_parts h i at c ++ top_parts seen_then indexed_then to r.chunks)) ((inside_told h i at c).streams ++ top_streams seen_then to r.chunks)) is.0
+    ∙ ap (λ (ps : List Part). of_three (part_at i x ∷ ((inside_told h i at c).steps ++ top_steps_by name_steps seen_then (stood to r.chunks))) (part (top_role indexed c) at c ∷ (ps ++ top_parts seen_then indexed_then to r.chunks)) ((inside_told h i at c).streams ++ top_streams seen_then to r.chunks)) is.1
 
 pub hdrl_next : (seen : Bool) (c : Chunk) (rest r : Run) → rest ≡ and_then c r → (seen || has_hdrl rest.chunks) ≡ ((seen || is_type (codes "hdrl") c) || has_hdrl r.chunks)
 hdrl_next seen c rest r step = ap (λ (x : Run). seen || has_hdrl x.chunks) step ∙ or_assoc seen (is_type (codes "hdrl") c) (has_hdrl r.chunks)

@@ -18,11 +18,11 @@ use Rattle.carrier_model.specs.Info.{is_type, list_run, own_size}
 use Rattle.opendml_index.proofs.Known.{same_true}
 use Rattle.avi_model.specs.Avi.{avi_of, body_span, essence, first_body, forms, has_id, is_movi, kids, old_indexes, stream_indexes}
 use Rattle.avi_model.specs.Map.{essence_spans, form_parts, further_parts, further_role, inside_parts, item_role, kid_parts, list_rest, part, parts_of, plain_parts, role_where, stream_parts, stream_role, top_parts, top_role}
-use Rattle.avi_model.specs.Reading.{end_at, form_steps, reading}
+use Rattle.avi_model.specs.Reading.{end_at, further_steps, name_steps, first_steps_by, form_steps_by, named_reading}
 use Rattle.avi_model.specs.Support.{infos}
 use Rattle.avi_model.specs.Why.{Test, list_tests, steps_tests}
-use Rattle.avi_model.proofs.Sound.{all_left}
-use Rattle.avi_model.proofs.Whys.{StepFine, avi_from, forms_from, steps_fine}
+use Rattle.avi_model.proofs.Sound.{all_left, all_right}
+use Rattle.avi_model.proofs.Whys.{AllFine, StepFine, avi_from, steps_fine}
 use Rattle.avi_file.specs.Chosen.{is_tables, tables_with}
 use Rattle.avi_file.specs.Fields.{infos_of}
 use Rattle.avi_file.specs.Forms.{front_tests}
@@ -149,14 +149,29 @@ forms_essence b (c ∷ cs) at left is long =
     ∙ sym (map-append body_span own (far (length (spell c))))
     ∙ ap (λ (q : ℕ). map body_span (own ++ far q)) (sym (first_long b c cs left is long.0))
 
+-- where a form was met, it has its type
+further_long : (q : ℕ) (cs : List Chunk) → AllFine (flat_map further_steps (stood q cs)) → AllByRecursion (λ c. 4 ≤ length c.body) cs
+further_long q [] h = tt
+further_long q (c ∷ cs) h =
+    let x : Stood = record { at = q; chunk = bare c } in
+    let more = flat_map further_steps (stood (q + length (spell c)) cs) in
+    ((all_left StepFine (further_steps x) more h).0, further_long (q + length (spell c)) cs (all_right StepFine (further_steps x) more h))
+
+forms_long : (cs : List Chunk) → AllFine (form_steps_by name_steps (stood 0 cs)) → AllByRecursion (λ c. 4 ≤ length c.body) cs
+forms_long [] h = tt
+forms_long (c ∷ cs) h =
+    let x : Stood = record { at = 0; chunk = bare c } in
+    let more = flat_map further_steps (stood (0 + length (spell c)) cs) in
+    ((all_left StepFine (first_steps_by name_steps x) more h).0, further_long (0 + length (spell c)) cs (all_right StepFine (first_steps_by name_steps x) more h))
+
 -- where the forms were read, the essence is that of the file
 pub front_long : (b : List ℕ) → first (front_tests b) ≡ None → AllByRecursion (λ c. 4 ≤ length c.body) (forms b).chunks
 front_long b e =
     let all = first_none (front_tests b) e in
     let ends_ = end_at (length (spell_all (forms b).chunks)) (forms b).stop ∷ [] in
-    let steps = all_left (λ (t : Test). t.0 ≡ false) (steps_tests 0 (reading b)) (list_tests (avi_of b)) all.1 in
-    let fine = (steps_fine 0 (reading b) steps).0 in
-    (forms_from (forms b).chunks (forms b).left (all_left StepFine (form_steps (stood 0 (forms b).chunks)) ends_ fine)).long
+    let steps = all_left (λ (t : Test). t.0 ≡ false) (steps_tests 0 (named_reading b)) (list_tests (avi_of b)) all.1 in
+    let fine = (steps_fine 0 (named_reading b) steps).0 in
+    forms_long (forms b).chunks (all_left StepFine (form_steps_by name_steps (stood 0 (forms b).chunks)) ends_ fine)
 
 pub essence_parts : (b : List ℕ) → first (front_tests b) ≡ None → essence_of (parts_of b) ≡ essence_spans b
 essence_parts b e = forms_essence b (forms b).chunks (length (spell_all (forms b).chunks)) (forms b).left (first_is b) (front_long b e)

@@ -15,9 +15,9 @@ use Rattle.opendml_index.specs.Checks.{EndInside}
 use Rattle.avi_model.specs.Avi.{avi_of}
 use Rattle.avi_model.specs.Index.{indexes, spans, streams}
 use Rattle.avi_model.specs.Map.{counted_entries, essence_spans, parts_of, standards}
-use Rattle.avi_model.specs.Reading.{reading}
+use Rattle.avi_model.specs.Reading.{named_reading}
 use Rattle.avi_model.specs.Support.{begins, by_place, part_limit}
-use Rattle.avi_model.specs.Why.{Test, list_tests, overlap_tests, standard_tests, steps_tests, stream_tests, tests, why}
+use Rattle.avi_model.specs.Why.{Test, list_tests, overlap_tests, standard_tests, steps_tests, stream_tests, tests_of, why_named}
 use Rattle.avi_file.specs.declared.index.IndexChunk.{IndexChunk}
 use Rattle.avi_file.specs.declared.tables.Placed.{Placed}
 use Rattle.avi_file.specs.declared.map.OldIndex.{OldIndex}
@@ -138,23 +138,23 @@ none_left b none more = sym (ap first (same_tables b)) ∙ then_none (place_test
 
 -- ---- the whole file
 
-same_file : (b : List ℕ) → front_tests b ++ table_tests b ≡ tests b
+same_file : (b : List ℕ) → front_tests b ++ table_tests b ≡ tests_of (named_reading b) b
 same_file b =
     ap (λ (ts : List Test). (not (begins b), UnknownKind) ∷ ts)
-    (append_assoc (steps_tests 0 (reading b)) (list_tests (avi_of b)) (table_tests b) ∙ ap (λ (ts : List Test). steps_tests 0 (reading b) ++ (list_tests (avi_of b) ++ ts)) (same_last b))
+    (append_assoc (steps_tests 0 (named_reading b)) (list_tests (avi_of b)) (table_tests b) ∙ ap (λ (ts : List Test). steps_tests 0 (named_reading b) ++ (list_tests (avi_of b) ++ ts)) (same_last b))
   where
     same_last : (b : List ℕ) → table_tests b ≡ flat_map (stream_tests b) (streams b)
         ++ ((nat_lt part_limit (length (indexes b)), TooManyParts)
         ∷ (overlap_tests 0 (by_place (indexes b)) ++ (flat_map (standard_tests b) (by_place (indexes b)) ++ (flat_map (Rattle.avi_model.specs.Why.base_tests b) (Rattle.avi_model.specs.Index.olds b) ++ flat_map (Rattle.avi_model.specs.Why.old_tests (Rattle.avi_model.specs.Index.base b) (Rattle.avi_model.specs.Avi.first_movi (avi_of b)) (indexes b)) (Rattle.avi_model.specs.Index.olds b)))))
     same_last b = refl
 
-pub front_fails : (b : List ℕ) (w : Why) → first (front_tests b) ≡ Some w → why b ≡ Some w
+pub front_fails : (b : List ℕ) (w : Why) → first (front_tests b) ≡ Some w → why_named b ≡ Some w
 front_fails b w h = sym (ap first (same_file b)) ∙ then_some (front_tests b) (table_tests b) w h
 
-pub tables_fail : (b : List ℕ) (w : Why) → first (front_tests b) ≡ None → first (table_tests b) ≡ Some w → why b ≡ Some w
+pub tables_fail : (b : List ℕ) (w : Why) → first (front_tests b) ≡ None → first (table_tests b) ≡ Some w → why_named b ≡ Some w
 tables_fail b w none h = sym (ap first (same_file b)) ∙ then_none (front_tests b) (table_tests b) none ∙ h
 
-pub all_none : (b : List ℕ) → first (front_tests b) ≡ None → first (table_tests b) ≡ None → why b ≡ None
+pub all_none : (b : List ℕ) → first (front_tests b) ≡ None → first (table_tests b) ≡ None → why_named b ≡ None
 all_none b none more = sym (ap first (same_file b)) ∙ then_none (front_tests b) (table_tests b) none ∙ more
 
 -- ---- bodies of index chunks

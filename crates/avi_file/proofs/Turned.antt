@@ -18,7 +18,7 @@ use Rattle.riff_form.specs.declared.ChunkAt.{ChunkAt}
 use Rattle.riff_form.specs.Walk.{InOrder, chunk_in}
 use Rattle.avi_model.specs.Avi.{avi_by, avi_front, avi_of, body_span, first_body, form_run, forms, kids, strls}
 use Rattle.avi_model.specs.Map.{kid_parts, list_rest, further_role, further_parts, form_parts, top_parts}
-use Rattle.avi_model.specs.Reading.{Step, form_at, end_at, further_steps, form_steps, top_steps}
+use Rattle.avi_model.specs.Reading.{Step, form_at, end_at, name_steps, further_steps, form_steps_by, top_steps_by}
 use Rattle.avi_model.specs.Support.{begins}
 use Rattle.avi_model.proofs.Turns.{form_ahead, form_cut}
 use Rattle.avi_file.specs.Walk.{both, run_told, top_streams, inside_told, behind_type, streams_in}
@@ -149,14 +149,14 @@ file_next b c r is =
     let n = length (spell c) in
     let x : Stood = record { at = 0; chunk = bare c } in
     let told = map behind_type (strls (avi_of b)) in
-    let top = top_steps false (stood 12 (list_run c).chunks) ++ end_at (12 + length (spell_all (list_run c).chunks)) (list_run c).stop ∷ [] in
+    let top = top_steps_by name_steps false (stood 12 (list_run c).chunks) ++ end_at (12 + length (spell_all (list_run c).chunks)) (list_run c).stop ∷ [] in
     let tops = top_parts false false 12 (list_run c).chunks in
     let rest = rest_parts (12 + length (spell_all (list_run c).chunks)) (list_run c).left in
     let end = n + length (spell_all r.chunks) in
     let place : length (spell c ++ spell_all r.chunks) ≡ end = length-append (spell c) (spell_all r.chunks) in
     let zero : 0 + n ≡ n = omega arith in
-    ap (λ (y : Run). of_three (form_steps (stood 0 y.chunks) ++ end_at (length (spell_all y.chunks)) y.stop ∷ []) (form_parts y.chunks ++ rest_parts (length (spell_all y.chunks)) y.left) told) is
-    ∙ ap (λ (p : ℕ). of_three (form_steps (stood 0 (c ∷ r.chunks)) ++ end_at p r.stop ∷ []) (form_parts (c ∷ r.chunks) ++ rest_parts p r.left) told) place
+    ap (λ (y : Run). of_three (form_steps_by name_steps (stood 0 y.chunks) ++ end_at (length (spell_all y.chunks)) y.stop ∷ []) (form_parts y.chunks ++ rest_parts (length (spell_all y.chunks)) y.left) told) is
+    ∙ ap (λ (p : ℕ). of_three (form_steps_by name_steps (stood 0 (c ∷ r.chunks)) ++ end_at p r.stop ∷ []) (form_parts (c ∷ r.chunks) ++ rest_parts p r.left) told) place
     ∙ ap (λ (q : ℕ). of_three (((form_at x ∷ top) ++ flat_map further_steps (stood q r.chunks)) ++ end_at end r.stop ∷ []) (form_parts (c ∷ r.chunks) ++ rest_parts end r.left) told) zero
     ∙ ap (λ (ss : List Step). of_three ss (form_parts (c ∷ r.chunks) ++ rest_parts end r.left) told) (append_assoc (form_at x ∷ top) (flat_map further_steps (stood n r.chunks)) (end_at end r.stop ∷ []))
     ∙ ap (λ (ps : List Part). of_three ((form_at x ∷ top) ++ (flat_map further_steps (stood n r.chunks) ++ end_at end r.stop ∷ [])) ps told) (four_apart tops rest (further_parts n r.chunks) (rest_parts end r.left))

@@ -1,13 +1,10 @@
 -- The fields of an AVI file as they are read: the items of one list after the other.
-use Rattle.std.specs.Prelude.{◌≡◌, ℕ, List, [], ◌∷◌, ◌++◌, map, drop, Result, if◌then◌else◌}
+use Rattle.std.specs.Prelude.{◌≡◌, ℕ, List, [], drop, Result}
 use Rattle.std.specs.declared.result.Result.TheVariants.{Ok, Err}
-use Rattle.std.specs.Str.{bytes_eq}
 use Rattle.std.specs.List.{flat_map, AllByRecursion}
 use Rattle.part_tree.specs.Fields.{values}
-use Rattle.part_tree.specs.Names.{info_ids}
 use Rattle.part_tree.specs.declared.field.BextField.{BextField}
-use Rattle.part_tree.specs.declared.field.FieldName.{FieldName}
-use Rattle.part_tree.specs.declared.field.FieldName.TheVariants.{Bext, Info, Key}
+use Rattle.part_tree.specs.declared.field.FieldName.TheVariants.{Bext, Key}
 use Rattle.part_tree.specs.declared.fields.Entry.{Entry}
 use Rattle.part_tree.specs.declared.names.Span.{Span}
 use Rattle.part_tree.specs.declared.part.Part.{Part}
@@ -15,29 +12,12 @@ use Rattle.part_tree.specs.declared.why.ReadFault.{ReadFault}
 use Rattle.part_tree.specs.declared.why.ReadFault.TheVariants.{Why, Depot, Memory}
 use Rattle.container_model.specs.Chunk.{ends}
 use Rattle.container_model.specs.Items as items
-use Rattle.carrier_model.specs.Info.{info_items, one_of}
+use Rattle.carrier_model.specs.Info.{info_items}
 use Rattle.container_model.specs.Written.{slice}
-use Rattle.field_model.specs.Fields.{FieldMap, plain}
-use Rattle.info_list.specs.declared.InfoItem.{InfoItem}
+use Rattle.field_model.specs.Fields.{FieldMap}
+use Rattle.info_list.specs.Fields.{Grows, infos_alone}
 use Rattle.info_list.specs.Info.{items_run}
 use Rattle.avi_file.specs.Walk.{chosen, is_items}
-
--- the values of a map stand behind those that were there
-abbrev pub Grows : List Entry → List Entry → FieldMap → Type 0
-Grows old new f = (n : FieldName) → values new n ≡ values old n ++ f n
-
--- only items of INFO lists are fields
-abbrev pub infos_alone : (List ℕ → List (List ℕ)) → FieldMap
-infos_alone f (Info id) = map plain (f id.0)
-infos_alone f _ = []
-
--- the value of a name in an item
-abbrev pub item_value : List ℕ → InfoItem → List (List ℕ)
-item_value id i = if bytes_eq id i.id.0 then (if one_of info_ids i.id.0 then i.raw ∷ [] else []) else []
-
--- the fields in items
-abbrev pub items_held : List InfoItem → FieldMap
-items_held is = infos_alone (λ id. flat_map (item_value id) is)
 
 -- the items of a list at a range, which begins with its type
 abbrev pub behind_info : List ℕ → Span → List ℕ
@@ -73,8 +53,8 @@ ReadsLists b ss old new (Err (Why w)) = AllByRecursion (ListEnds b) ss → ⊥
 ReadsLists b ss old new (Err Depot) = Unit {0}
 ReadsLists b ss old new (Err Memory) = Unit {0}
 
--- no other fields are there
-pub record OnlyInfo (es : List Entry) : Type 0 where
+-- items of INFO lists and names of streams alone are there
+pub record OnlyTexts (es : List Entry) : Type 0 where
   pub no_bext : (field : BextField) → values es (Bext field) ≡ []
   pub no_keys : (name : List ℕ) → values es (Key name) ≡ []
 

@@ -14,12 +14,13 @@ use Rattle.riff_form.specs.declared.StepFault.{StepFault}
 use Rattle.riff_form.specs.declared.StepFault.TheVariants as fault
 use Rattle.riff_form.specs.Walk.{chunk_in}
 use Rattle.avi_model.specs.Avi.{avi_front, avi_of, forms, strls}
-use Rattle.avi_model.specs.Map.{further_role, further_parts, parts_of, form_spans}
-use Rattle.avi_model.specs.Reading.{form_at, further_steps, reading}
+use Rattle.avi_model.specs.Map.{further_parts, parts_of, form_spans}
+use Rattle.avi_model.specs.Reading.{form_at, further_steps, named_reading}
 use Rattle.avi_model.specs.Support.{begins}
 use Rattle.avi_model.specs.Why.{Test, steps_tests, list_tests}
 use Rattle.avi_file.specs.Walk.{Told, both, run_told, plain_told, top_told, behind_type, ReadAll, has_hdrl}
 use Rattle.avi_file.specs.declared.form.Forms.{Forms}
+use Rattle.avi_file.specs.declared.kind.Inside.TheVariants.{Further}
 use Rattle.avi_file.specs.declared.top.Top.{Top}
 
 -- ---- one form
@@ -57,7 +58,7 @@ form_told at c = record { steps = form_at (record { at = at; chunk = bare c }) �
 
 -- a further form
 abbrev pub further_told : ℕ → Chunk → Told
-further_told at c = both (form_told at c) (run_told (plain_told further_role) (at + 12) (list_run c))
+further_told at c = both (form_told at c) (run_told (plain_told Further) (at + 12) (list_run c))
 
 -- further forms
 abbrev pub others_told : ℕ → List Chunk → Told
@@ -69,17 +70,17 @@ first_told c = both (form_told 0 c) (run_told (top_told false false) 12 (list_ru
 
 -- the whole file
 abbrev pub file_told : List ℕ → Told
-file_told b = record { steps = reading b; parts = parts_of b; streams = map behind_type (strls (avi_of b)) }
+file_told b = record { steps = named_reading b; parts = parts_of b; streams = map behind_type (strls (avi_of b)) }
 
 -- ---- what is answered
 
 -- the tests of the forms: the kind, then each form with its chunks, then the lists that must be there
 abbrev pub front_tests : List ℕ → List Test
-front_tests b = (not (begins b), UnknownKind) ∷ (steps_tests 0 (reading b) ++ list_tests (avi_of b))
+front_tests b = (not (begins b), UnknownKind) ∷ (steps_tests 0 (named_reading b) ++ list_tests (avi_of b))
 
 -- the first of them, without the lists that must be there
 abbrev pub form_tests : List ℕ → List Test
-form_tests b = (not (begins b), UnknownKind) ∷ steps_tests 0 (reading b)
+form_tests b = (not (begins b), UnknownKind) ∷ steps_tests 0 (named_reading b)
 
 -- the first form was read
 pub record FirstRead (b : List ℕ) (k : ChunkAt) (old new : Top) : Type 0 where

@@ -7,3 +7,5 @@ pub mod Entries
 pub mod Map
 pub mod Fields
 pub mod Tables
+pub mod Names
+pub mod Tells

@@ -16,11 +16,11 @@ use Rattle.avi_index.specs.Checks.{told_base}
 use Rattle.avi_index.specs.Found.{counted}
 use Rattle.opendml_index.specs.Checks.{EndInside}
 use Rattle.avi_model.specs.Avi.{avi_of, first_movi, strls}
-use Rattle.avi_model.specs.Edited.{fields}
+use Rattle.avi_model.specs.After.{all_fields}
 use Rattle.avi_model.specs.Index.{base, indexes, olds, spans, table_span}
-use Rattle.avi_model.specs.Kind.{listed_kind}
+use Rattle.avi_model.specs.Kind.{avi_kind}
 use Rattle.avi_model.specs.Map.{count_olds, counted_entries, essence_spans, form_spans, parts_of, standards, supers}
-use Rattle.avi_model.specs.Why.{why}
+use Rattle.avi_model.specs.Why.{why_named}
 use Rattle.avi_file.specs.Walk.{ArePlaced, behind_type}
 use Rattle.avi_file.specs.declared.map.OldIndex.{OldIndex}
 use Rattle.avi_file.specs.declared.map.AviMap.{AviMap}
@@ -45,11 +45,11 @@ TellsOld b (Some old) = IsOld b old
 -- The file is supported, and the map tells its length, its forms, its parts in order, the values of each field, the bodies of its
 -- movi lists, of `idx1`, of its super and of its standard indexes, how many entries are counted, and its streams' lists.
 pub record IsMapOf (b : List ℕ) (m : AviMap) : Type 0 where
-  pub supported : why b ≡ None
+  pub supported : why_named b ≡ None
   pub len : m.len ≡ length b
   pub forms : m.forms.items ≡ form_spans b
   pub parts : m.parts.items ≡ parts_of b
-  pub field_values : (name : FieldName) → values m.fields name ≡ fields b name
+  pub field_values : (name : FieldName) → values m.fields name ≡ all_fields b name
   pub movis : m.movis.items ≡ essence_spans b
   pub idx1 : TellsOld b m.idx1
   pub supers_are : m.supers.items ≡ map table_span (supers b)
@@ -59,11 +59,11 @@ pub record IsMapOf (b : List ℕ) (m : AviMap) : Type 0 where
 
 -- the map of the file, or the first refusal
 abbrev pub ReadsAvi : List ℕ → Result AviMap ReadFault → Type 0
-ReadsAvi b r = ReadsKind listed_kind IsMapOf b r
+ReadsAvi b r = ReadsKind avi_kind IsMapOf b r
 
 -- the fields of a supported file
 abbrev pub ReadsFields : List ℕ → Result (List Entry) ReadFault → Type 0
-ReadsFields b (Ok fs) = (name : FieldName) → values fs name ≡ fields b name
+ReadsFields b (Ok fs) = (name : FieldName) → values fs name ≡ all_fields b name
 ReadsFields b (Err (Why w)) = ⊥
 ReadsFields b (Err Depot) = Unit {0}
 ReadsFields b (Err Memory) = Unit {0}

@@ -15,10 +15,11 @@ use Rattle.container_model.specs.Chunk.{Chunk, Run, Stop, spell, spell_all}
 use Rattle.container_model.specs.Stood.{Stood, stood, bare, only}
 use Rattle.container_model.specs.Tests.{first}
 use Rattle.carrier_model.specs.Info.{is_padding, is_type, list_run}
+use Rattle.carrier_model.specs.Names.{is_name}
 use Rattle.riff_form.specs.declared.ChunkAt.{ChunkAt}
 use Rattle.avi_model.specs.Avi.{has_id, is_movi}
 use Rattle.avi_model.specs.Map.{role_where, item_role, stream_role, further_role, top_role, part, plain_parts, stream_parts, top_parts}
-use Rattle.avi_model.specs.Reading.{Step, part_at, end_at, part_of, stream_steps, top_steps, parts_met}
+use Rattle.avi_model.specs.Reading.{Step, part_at, end_at, name_steps, stream_steps_by, top_steps_by, parts_met}
 use Rattle.avi_model.specs.Why.{steps_tests}
 use Rattle.avi_file.specs.declared.kind.Inside.{Inside}
 use Rattle.avi_file.specs.declared.kind.Inside.TheVariants.{Items, Stream, Further}
@@ -32,6 +33,12 @@ role_of Items c = item_role c
 role_of Stream c = stream_role c
 role_of Further c = further_role c
 
+-- whether a chunk is a field, by where it stands: in a stream's list a name is one
+abbrev pub carries : Inside → Chunk → Bool
+carries Items c = false
+carries Stream c = is_name c
+carries Further c = false
+
 -- ---- what stands somewhere
 
 -- steps of the reading, the parts that they are, and the streams' lists among them, told by their bodies behind the type
@@ -44,9 +51,9 @@ pub record Told : Type 0 where
 abbrev pub both : Told → Told → Told
 both a b = record { steps = a.steps ++ b.steps; parts = a.parts ++ b.parts; streams = a.streams ++ b.streams }
 
--- a chunk by itself, of which it is said whether it is a list of fields
+-- a chunk by itself, of which it is said whether it is a field or a list of fields
 abbrev pub chunk_told : Bool → Role → ℕ → Chunk → Told
-chunk_told info role at c = record { steps = part_at info (record { at = at; chunk = bare c }) ∷ []; parts = part role at c ∷ []; streams = [] }
+chunk_told carrier role at c = record { steps = part_at carrier (record { at = at; chunk = bare c }) ∷ []; parts = part role at c ∷ []; streams = [] }
 
 -- the end of chunks at a place, and the bytes that are left
 abbrev pub end_told : ℕ → Stop → List ℕ → Told
@@ -56,9 +63,13 @@ end_told at stop left = record { steps = end_at at stop ∷ []; parts = rest_par
 abbrev pub run_told : (ℕ → List Chunk → Told) → ℕ → Run → Told
 run_told told at r = both (told at r.chunks) (end_told (at + length (spell_all r.chunks)) r.stop r.left)
 
+-- a chunk that is not opened, by where it stands
+abbrev pub part_in : Inside → Stood → List Step
+part_in inside x = part_at (carries inside x.chunk) x ∷ []
+
 -- chunks of which none is opened
-abbrev pub plain_told : (Chunk → Role) → ℕ → List Chunk → Told
-plain_told role at cs = record { steps = flat_map part_of (stood at cs); parts = plain_parts role at cs; streams = [] }
+abbrev pub plain_told : Inside → ℕ → List Chunk → Told
+plain_told inside at cs = record { steps = flat_map (part_in inside) (stood at cs); parts = plain_parts (role_of inside) at cs; streams = [] }
 
 -- ---- what is answered
 
@@ -137,7 +148,7 @@ streams_in xs = map behind_type (only (is_type (codes "strl")) xs)
 
 -- the chunks of hdrl, where each strl is opened
 abbrev pub stream_told : ℕ → List Chunk → Told
-stream_told at cs = record { steps = flat_map stream_steps (stood at cs); parts = stream_parts at cs; streams = streams_in (stood at cs) }
+stream_told at cs = record { steps = flat_map (stream_steps_by name_steps) (stood at cs); parts = stream_parts at cs; streams = streams_in (stood at cs) }
 
 -- nothing was read
 abbrev pub none_told : Told
@@ -149,7 +160,7 @@ list_told s = record { steps = []; parts = []; streams = s ∷ [] }
 
 -- what stands in a chunk of hdrl
 abbrev pub strl_told : Bool → ℕ → Chunk → Told
-strl_told true at c = both (list_told (behind_type (record { at = at; chunk = bare c }))) (run_told (plain_told stream_role) (at + 12) (list_run c))
+strl_told true at c = both (list_told (behind_type (record { at = at; chunk = bare c }))) (run_told (plain_told Stream) (at + 12) (list_run c))
 strl_told false at c = none_told
 
 -- a chunk of hdrl
@@ -161,7 +172,7 @@ opened_strl at c = both (chunk_told false Opaque at c) (strl_told (is_type (code
 -- what stands in a chunk of the first form: in the first hdrl, and in a list of fields
 abbrev pub inside_told : Bool → Bool → ℕ → Chunk → Told
 inside_told true info at c = run_told stream_told (at + 12) (list_run c)
-inside_told false true at c = run_told (plain_told item_role) (at + 12) (list_run c)
+inside_told false true at c = run_told (plain_told Items) (at + 12) (list_run c)
 inside_told false false at c = none_told
 
 -- the streams' lists of the first form, behind a first hdrl or not
@@ -173,7 +184,7 @@ top_streams seen at (c ∷ cs) =
 
 -- the chunks of the first form, behind a first hdrl or not, and behind a first `idx1` or not
 abbrev pub top_told : Bool → Bool → ℕ → List Chunk → Told
-top_told seen indexed at cs = record { steps = top_steps seen (stood at cs); parts = top_parts seen indexed at cs; streams = top_streams seen at cs }
+top_told seen indexed at cs = record { steps = top_steps_by name_steps seen (stood at cs); parts = top_parts seen indexed at cs; streams = top_streams seen at cs }
 
 -- a chunk of the first form
 abbrev pub opened_top : Bool → Bool → ℕ → Chunk → Told

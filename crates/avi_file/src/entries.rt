@@ -40,7 +40,8 @@ fn check_chunk<D: Depot>(
     requires movis { (b : List ℕ) → Holds (D.disk depot.old) b → AllByRecursion (EndInside (length b)) movis.now }
     requires least { 8 ≤ chunk.now.body.at }
     requires whole { (b : List ℕ) → Holds (D.disk depot.old) b → IsWhole b chunk.now }
-    ensures entries { (b : List ℕ) → Holds (D.disk depot.old) b → Counts (chunk_tests movis.now bodies.now b chunk.now) (chunk_count b chunk.now) result }
+    ensures entries { (b : List ℕ) → Holds (D.disk depot.old) b
+        → Counts (chunk_tests movis.now bodies.now b chunk.now) (chunk_count b chunk.now) result }
     ensures few { IfOk result (λ n. n < 2 ^ 32) }
     ensures reads { ReadsOnly (D.disk depot.old) (D.disk depot.new) }
     ensures cause { result ≡ Err ReadFault.Depot → Rose (D.disk depot.old).faults (D.disk depot.new).faults }
@@ -70,7 +71,8 @@ pub fn check_standards<D: Depot>(
     requires few { length chunks.now ≤ 65536 }
     requires sound { AreSound chunks.now }
     requires whole { (b : List ℕ) → Holds (D.disk depot.old) b → AreWhole b chunks.now }
-    ensures entries { (b : List ℕ) → Holds (D.disk depot.old) b → CountsChunks movis.now bodies.now b chunks.now result }
+    ensures entries { (b : List ℕ) → Holds (D.disk depot.old) b
+        → CountsChunks movis.now bodies.now b chunks.now result }
     ensures few { IfOk result (λ n. n ≤ 2 ^ 48) }
     ensures reads { ReadsOnly (D.disk depot.old) (D.disk depot.new) }
     ensures cause { result ≡ Err ReadFault.Depot → Rose (D.disk depot.old).faults (D.disk depot.new).faults }
@@ -99,7 +101,8 @@ pub fn check_old<D: Depot>(
     requires least { 8 ≤ idx.at }
     requires movi { IsInside (movi.at + movi.len) (D.disk depot.old) }
     requires movi_small { movi.at + movi.len < 2 ^ 63 }
-    ensures entries { (b : List ℕ) → Holds (D.disk depot.old) b → ReadsEntries b bodies.now movi (table_at b idx) result }
+    ensures entries { (b : List ℕ) → Holds (D.disk depot.old) b
+        → ReadsEntries b bodies.now movi (table_at b idx) result }
     ensures body { IfOk result (λ old. old.body ≡ idx) }
     ensures few { IfOk result (λ old. old.counted ≤ idx.len) }
     ensures reads { ReadsOnly (D.disk depot.old) (D.disk depot.new) }

@@ -1,5 +1,5 @@
 // The fields of a file: the items of its lists.
-ghost use Rattle.std.specs.Prelude.{◌≡◌, ◌+◌, ◌-◌, ◌<◌, ◌≤◌, ◌^◌, ◌∷◌, [], ℕ, List, IfErr, IfOk, OnOk, length};
+ghost use Rattle.std.specs.Prelude.{◌≡◌, ◌+◌, ◌-◌, ◌<◌, ◌≤◌, ◌^◌, ℕ, List, IfErr, IfOk, OnOk, length};
 ghost use Rattle.std.specs.List.{AllByRecursion};
 ghost use Rattle.me_disk.specs.Causes.{Rose};
 ghost use Rattle.me_disk.specs.Holds.{Holds, Inside as IsInside};
@@ -8,15 +8,15 @@ ghost use Rattle.container_model.specs.Written.{slice};
 ghost use Rattle.field_model.specs.Lawful.{IsLawful};
 ghost use Rattle.part_tree.specs.Fields.{values};
 ghost use Rattle.opendml_index.specs.Checks.{EndInside};
-ghost use Rattle.avi_file.specs.Fields.{Grows, IsNoWhy, OnlyInfo, ReadsList, ReadsLists, items_held};
+ghost use Rattle.avi_file.specs.Fields.{IsNoWhy, OnlyTexts, ReadsList, ReadsLists};
 
-use info_list::{InfoFault, InfoItem, read_info};
+use info_list::{InfoFault, add_items, read_info};
 use me_disk::{Depot, Slot};
-use part_tree::{Bytes, FieldName, Fields, NoMemory, ReadFault, Span, Value, Why};
+use part_tree::{Bytes, Fields, ReadFault, Span, Why};
 use std::alloc::Global;
 
-// The bytes of a range.
-fn read_bytes<D: Depot>(alloc: Global, depot: &mut D, span: Span) -> Result<Bytes, ReadFault>
+/// The bytes of a range.
+pub fn read_bytes<D: Depot>(alloc: Global, depot: &mut D, span: Span) -> Result<Bytes, ReadFault>
     requires inside { IsInside (span.at + span.len) (D.disk depot.old) }
     requires small { span.at + span.len < 2 ^ 63 }
     ensures bytes { (b : List ℕ) → Holds (D.disk depot.old) b → IfOk result (λ x. x ≡ slice b span.at span.len) }
@@ -35,28 +35,6 @@ fn read_bytes<D: Depot>(alloc: Global, depot: &mut D, span: Span) -> Result<Byte
     }
 }
 
-// Puts an item behind the fields, where its identifier is a field's.
-fn add_item(fields: &mut Fields, alloc: Global, item: &InfoItem) -> Result<(), NoMemory>
-    ensures { OnOk result (Grows fields.old fields.new (items_held (item.now ∷ []))) }
-{
-    let name = FieldName::Info(item.id);
-    if !name.is_field() {
-        return Ok(());
-    }
-    let raw = Bytes::new(alloc, item.raw.as_slice())?;
-    fields.add(name, Value { lang: 0, raw })
-}
-
-// Puts the items whose identifiers are fields behind the fields.
-fn add_items(fields: &mut Fields, alloc: Global, items: &[InfoItem]) -> Result<(), NoMemory>
-    ensures { OnOk result (Grows fields.old fields.new (items_held items.now)) }
-{
-    'items: for item in items {
-        add_item(fields, alloc, item)?;
-    }
-    Ok(())
-}
-
 // Reads the items of a list of fields with this body.
 fn read_list<D: Depot>(
     fields: &mut Fields,
@@ -67,7 +45,7 @@ fn read_list<D: Depot>(
     requires inside { IsInside (list.at + list.len) (D.disk depot.old) }
     requires small { list.at + list.len < 2 ^ 63 }
     ensures list { (b : List ℕ) → Holds (D.disk depot.old) b → ReadsList b list fields.old fields.new result }
-    ensures only { OnOk result (OnlyInfo fields.old → OnlyInfo fields.new) }
+    ensures only { OnOk result (OnlyTexts fields.old → OnlyTexts fields.new) }
     ensures reads { ReadsOnly (D.disk depot.old) (D.disk depot.new) }
     ensures cause { result ≡ Err ReadFault.Depot → Rose (D.disk depot.old).faults (D.disk depot.new).faults }
 {
@@ -105,7 +83,7 @@ pub fn read_lists<D: Depot>(
     requires inside { (b : List ℕ) → Holds (D.disk depot.old) b → AllByRecursion (EndInside (length b)) lists.now }
     requires small { AllByRecursion (EndInside (2 ^ 63 - 1)) lists.now }
     ensures lists { (b : List ℕ) → Holds (D.disk depot.old) b → ReadsLists b lists.now fields.old fields.new result }
-    ensures only { OnOk result (OnlyInfo fields.old → OnlyInfo fields.new) }
+    ensures only { OnOk result (OnlyTexts fields.old → OnlyTexts fields.new) }
     ensures reads { ReadsOnly (D.disk depot.old) (D.disk depot.new) }
     ensures cause { result ≡ Err ReadFault.Depot → Rose (D.disk depot.old).faults (D.disk depot.new).faults }
 {

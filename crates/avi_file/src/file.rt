@@ -1,37 +1,41 @@
 // The whole file.
-ghost use Rattle.std.specs.Prelude.{◌≡◌, ◌<◌, ◌^◌, ℕ, List, IfOk, None, length};
+ghost use Rattle.std.specs.Prelude.{◌≡◌, ◌<◌, ◌^◌, ℕ, List, IfOk, None, length, map};
 ghost use Rattle.me_disk.specs.Causes.{Rose};
 ghost use Rattle.me_disk.specs.Holds.{Holds};
 ghost use Rattle.me_disk.specs.Steps.{ReadsOnly};
 ghost use Rattle.part_tree.specs.Fields.{values};
 ghost use Rattle.field_model.specs.Lawful.{IsLawful};
+ghost use Rattle.avi_model.specs.Avi.{avi_of, strls};
 ghost use Rattle.avi_model.specs.Map.{parts_of};
-ghost use Rattle.avi_model.specs.Why.{why};
+ghost use Rattle.avi_model.specs.Why.{why_named};
 ghost use Rattle.avi_file.specs.Forms.{AreForms};
 ghost use Rattle.avi_file.specs.Map.{IsSound, ReadsAvi, ReadsFields};
-ghost use Rattle.avi_file.specs.Walk.{ArePlaced};
+ghost use Rattle.avi_file.specs.Walk.{ArePlaced, behind_type};
 
 use crate::chosen::infos_of;
 use crate::fields::read_lists;
 use crate::form::{Forms, read_forms};
 use crate::map::AviMap;
+use crate::names::read_streams;
 use crate::tables::{Tables, read_tables};
 use me_disk::{Depot, Slot};
-use part_tree::{Fields, Part, ReadFault};
+use part_tree::{Fields, Part, ReadFault, Span};
 use std::alloc::Global;
 
-// The fields of a file of this length, whose parts these are.
+// The fields of a file of this length, whose parts and whose streams' lists these are.
 fn read_fields<D: Depot>(
     alloc: Global,
     depot: &mut D,
     parts: &[Part],
+    streams: &[Span],
     len: u64,
 ) -> Result<Fields, ReadFault>
     requires whole { (b : List ℕ) → Holds (D.disk depot.old) b → len ≡ length b }
     requires small { len < 2 ^ 63 }
     requires placed { ArePlaced len len parts.now }
     requires parts { (b : List ℕ) → Holds (D.disk depot.old) b → parts.now ≡ parts_of b }
-    requires supported { (b : List ℕ) → Holds (D.disk depot.old) b → why b ≡ None }
+    requires streams { (b : List ℕ) → Holds (D.disk depot.old) b → streams.now ≡ map behind_type (strls (avi_of b)) }
+    requires supported { (b : List ℕ) → Holds (D.disk depot.old) b → why_named b ≡ None }
     ensures fields { (b : List ℕ) → Holds (D.disk depot.old) b → ReadsFields b result }
     ensures lawful { IfOk result (λ fields. IsLawful (values fields)) }
     ensures reads { ReadsOnly (D.disk depot.old) (D.disk depot.new) }
@@ -43,6 +47,10 @@ fn read_fields<D: Depot>(
     };
     let mut fields = Fields::new(alloc);
     match read_lists(&mut fields, alloc, depot, &lists) {
+        Err(fault) => return Err(fault),
+        Ok(()) => {}
+    }
+    match read_streams(&mut fields, alloc, depot, streams, len) {
         Err(fault) => Err(fault),
         Ok(()) => Ok(fields),
     }
@@ -69,7 +77,7 @@ fn read_rest<D: Depot>(
         Err(fault) => return Err(fault),
         Ok(tables) => tables,
     };
-    match read_fields(alloc, depot, &reading.parts, len) {
+    match read_fields(alloc, depot, &reading.parts, &reading.streams, len) {
         Err(fault) => Err(fault),
         Ok(fields) => Ok(AviMap {
             len,

@@ -123,8 +123,10 @@ fn read_further<D: Depot>(
     requires inside { IsInside form.now.next (D.disk depot.old) }
     requires small { form.now.next < 2 ^ 63 }
     requires order { InOrder form.now.at form.now.next form.now }
-    ensures took { (b : List ℕ) → Holds (D.disk depot.old) b → Reads (further_told form.now.at (chunk_in b riff form.now)) reading.old reading.new result }
-    ensures placed { OnOk result (KeepsPlaces form.now.at form.now.next form.now.next reading.old.parts.items reading.new.parts.items) }
+    ensures took { (b : List ℕ) → Holds (D.disk depot.old) b
+        → Reads (further_told form.now.at (chunk_in b riff form.now)) reading.old reading.new result }
+    ensures placed { OnOk result
+        (KeepsPlaces form.now.at form.now.next form.now.next reading.old.parts.items reading.new.parts.items) }
     ensures reads { ReadsOnly (D.disk depot.old) (D.disk depot.new) }
     ensures cause { result ≡ Err ReadFault.Depot → Rose (D.disk depot.old).faults (D.disk depot.new).faults }
 {
@@ -152,8 +154,11 @@ fn read_others<D: Depot>(
     requires small { len < 2 ^ 63 }
     requires order { start ≤ len }
     requires least { 8 ≤ start }
-    ensures run { (b : List ℕ) → Holds (D.disk depot.old) b → Reads (run_told others_told start (forms_from false b start)) reading.old reading.new result }
-    ensures spans { (b : List ℕ) → Holds (D.disk depot.old) b → OnOk result (forms.new.items ≡ forms.old.items ++ map body_span (stood start (forms_from false b start).chunks)) }
+    ensures run { (b : List ℕ) → Holds (D.disk depot.old) b
+        → Reads (run_told others_told start (forms_from false b start)) reading.old reading.new result }
+    ensures spans { (b : List ℕ) → Holds (D.disk depot.old) b
+        → OnOk result (forms.new.items ≡ forms.old.items
+        ++ map body_span (stood start (forms_from false b start).chunks)) }
     ensures placed { OnOk result (KeepsPlaces start len len reading.old.parts.items reading.new.parts.items) }
     ensures reads { ReadsOnly (D.disk depot.old) (D.disk depot.new) }
     ensures cause { result ≡ Err ReadFault.Depot → Rose (D.disk depot.old).faults (D.disk depot.new).faults }
@@ -190,7 +195,8 @@ fn read_first<D: Depot>(top: &mut Top, depot: &mut D, len: u64) -> Result<ChunkA
     requires idx1 { top.old.idx1 ≡ false }
     ensures first { (b : List ℕ) → Holds (D.disk depot.old) b → ReadsFirst b top.old top.new result }
     ensures order { IfOk result (λ form. InOrder 0 len form) }
-    ensures placed { IfOk result (λ form. KeepsPlaces 0 form.next form.next top.old.reading.parts.items top.new.reading.parts.items) }
+    ensures placed { IfOk result
+        (λ form. KeepsPlaces 0 form.next form.next top.old.reading.parts.items top.new.reading.parts.items) }
     ensures reads { ReadsOnly (D.disk depot.old) (D.disk depot.new) }
     ensures cause { result ≡ Err ReadFault.Depot → Rose (D.disk depot.old).faults (D.disk depot.new).faults }
 {

@@ -24,8 +24,10 @@ fn open_stream<D: Depot>(
     requires small { chunk.now.next < 2 ^ 63 }
     requires order { InOrder chunk.now.at chunk.now.next chunk.now }
     requires long { 4 ≤ chunk.now.body.len }
-    ensures opened { (b : List ℕ) → Holds (D.disk depot.old) b → Reads (strl_told true chunk.now.at (chunk_in b riff chunk.now)) reading.old reading.new result }
-    ensures placed { OnOk result (KeepsPlaces chunk.now.at chunk.now.next chunk.now.next reading.old.parts.items reading.new.parts.items) }
+    ensures opened { (b : List ℕ) → Holds (D.disk depot.old) b
+        → Reads (strl_told true chunk.now.at (chunk_in b riff chunk.now)) reading.old reading.new result }
+    ensures placed { OnOk result
+        (KeepsPlaces chunk.now.at chunk.now.next chunk.now.next reading.old.parts.items reading.new.parts.items) }
     ensures reads { ReadsOnly (D.disk depot.old) (D.disk depot.new) }
     ensures cause { result ≡ Err ReadFault.Depot → Rose (D.disk depot.old).faults (D.disk depot.new).faults }
 {
@@ -55,11 +57,12 @@ fn take_stream<D: Depot>(
     requires order { InOrder chunk.now.at chunk.now.next chunk.now }
     ensures took { (b : List ℕ) → Holds (D.disk depot.old) b → chunk.now.at + length (spell (chunk_in b riff chunk.now)) ≡ chunk.now.next
         → Reads (opened_strl chunk.now.at (chunk_in b riff chunk.now)) reading.old reading.new result }
-    ensures placed { OnOk result (KeepsPlaces chunk.now.at chunk.now.next chunk.now.next reading.old.parts.items reading.new.parts.items) }
+    ensures placed { OnOk result
+        (KeepsPlaces chunk.now.at chunk.now.next chunk.now.next reading.old.parts.items reading.new.parts.items) }
     ensures reads { ReadsOnly (D.disk depot.old) (D.disk depot.new) }
     ensures cause { result ≡ Err ReadFault.Depot → Rose (D.disk depot.old).faults (D.disk depot.new).faults }
 {
-    match put_part(reading, chunk, Role::Opaque) {
+    match put_part(reading, chunk, Role::Opaque, false) {
         Err(fault) => return Err(fault),
         Ok(()) => {}
     }
@@ -81,7 +84,8 @@ pub fn read_hdrl<D: Depot>(
     requires small { end < 2 ^ 63 }
     requires order { start ≤ end }
     requires least { 8 ≤ start }
-    ensures run { (b : List ℕ) → Holds (D.disk depot.old) b → Reads (run_told stream_told start (row b start end)) reading.old reading.new result }
+    ensures run { (b : List ℕ) → Holds (D.disk depot.old) b
+        → Reads (run_told stream_told start (row b start end)) reading.old reading.new result }
     ensures placed { OnOk result (KeepsPlaces start end end reading.old.parts.items reading.new.parts.items) }
     ensures reads { ReadsOnly (D.disk depot.old) (D.disk depot.new) }
     ensures cause { result ≡ Err ReadFault.Depot → Rose (D.disk depot.old).faults (D.disk depot.new).faults }

@@ -34,7 +34,8 @@ pub struct Indexes {
 
 // Takes an index chunk that is named, unless there are too many already.
 fn put_named(named: &mut Vec<IndexChunk>, body: Span) -> Result<(), ReadFault>
-    ensures kept { OnOk result (KeepsFirst (record { body = body; standard = true } ∷ []) named.old.items named.new.items) }
+    ensures kept { OnOk result (KeepsFirst (record { body = body; standard = true }
+        ∷ []) named.old.items named.new.items) }
     ensures memory { IfErr result (λ fault. fault ≡ ReadFault.Memory) }
     ensures sound { 8 ≤ body.at → body.at + body.len < 2 ^ 63 → KeepsSound named.old.items named.new.items }
 {
@@ -55,7 +56,8 @@ fn read_index<D: Depot>(depot: &mut D, body: Span, standard: bool) -> Result<Ind
     requires inside { IsInside (body.at + body.len) (D.disk depot.old) }
     requires small { body.at + body.len < 2 ^ 63 }
     requires least { 8 ≤ body.at }
-    ensures head { (b : List ℕ) → Holds (D.disk depot.old) b → ReadsIndex (kind_wanted standard) (body.at - 8) (slice b body.at body.len) result }
+    ensures head { (b : List ℕ) → Holds (D.disk depot.old) b
+        → ReadsIndex (kind_wanted standard) (body.at - 8) (slice b body.at body.len) result }
     ensures room { IfOk result (λ head. head.standard ≡ false → 24 + 16 * head.used ≤ body.len) }
     ensures reads { ReadsOnly (D.disk depot.old) (D.disk depot.new) }
     ensures cause { result ≡ Err ReadFault.Depot → Rose (D.disk depot.old).faults (D.disk depot.new).faults }
@@ -113,7 +115,8 @@ fn take_named<D: Depot>(
     requires ascend { Ascends 0 movis.now }
     requires small { AllByRecursion (EndInside (2 ^ 63 - 1)) movis.now }
     requires inside { (b : List ℕ) → Holds (D.disk depot.old) b → AllByRecursion (EndInside (length b)) movis.now }
-    ensures took { (b : List ℕ) → Holds (D.disk depot.old) b → ReadsNamed (named_tests movis.now b place) (kept_at b (place ∷ [])) named.old.items named.new.items result }
+    ensures took { (b : List ℕ) → Holds (D.disk depot.old) b
+        → ReadsNamed (named_tests movis.now b place) (kept_at b (place ∷ [])) named.old.items named.new.items result }
     ensures sound { KeepsSound named.old.items named.new.items }
     ensures reads { ReadsOnly (D.disk depot.old) (D.disk depot.new) }
     ensures cause { result ≡ Err ReadFault.Depot → Rose (D.disk depot.old).faults (D.disk depot.new).faults }

@@ -6,7 +6,7 @@ ghost use Rattle.container_model.specs.Chunk.{riff};
 ghost use Rattle.carrier_model.specs.Info.{is_type};
 ghost use Rattle.riff_form.specs.Walk.{chunk_in};
 ghost use Rattle.avi_model.specs.Map.{role_where};
-ghost use Rattle.avi_file.specs.Walk.{IsKind, is_hdrl_kind, is_idx1_kind, is_info_kind, list_kind, role_of};
+ghost use Rattle.avi_file.specs.Walk.{IsKind, carries, is_hdrl_kind, is_idx1_kind, is_info_kind, list_kind, role_of};
 
 use me_disk::{Depot, DepotFault, Slot};
 use part_tree::{FourCc, Role};
@@ -35,7 +35,8 @@ pub enum TopKind {
 pub fn is_list<D: Depot>(depot: &mut D, chunk: &ChunkAt, word: &[u8; 4]) -> Result<bool, DepotFault>
     requires inside { IsInside (chunk.now.body.at + chunk.now.body.len) (D.disk depot.old) }
     requires small { chunk.now.body.at + chunk.now.body.len < 2 ^ 63 }
-    ensures is { (b : List ℕ) → Holds (D.disk depot.old) b → IfOk result (λ is. is ≡ is_type word.now (chunk_in b riff chunk.now)) }
+    ensures is { (b : List ℕ) → Holds (D.disk depot.old) b
+        → IfOk result (λ is. is ≡ is_type word.now (chunk_in b riff chunk.now)) }
     ensures long { IfOk result (λ is. is ≡ true → 4 ≤ chunk.now.body.len) }
     ensures reads { ReadsOnly (D.disk depot.old) (D.disk depot.new) }
     ensures cause { HasCause (D.disk depot.old) (D.disk depot.new) result }
@@ -58,11 +59,23 @@ fn role_if(holds: bool, role: Role) -> Role
     if holds { role } else { Role::Opaque }
 }
 
-// What a chunk is to an edit.
+/// Whether a chunk is a field by itself: in a stream's list a name is one.
+pub fn is_carrier(chunk: &ChunkAt, inside: Inside) -> bool
+    ensures { (b : List ℕ) → result ≡ carries inside (chunk_in b riff chunk.now) }
+{
+    match inside {
+        Inside::Stream => chunk.id.is(b"strn"),
+        Inside::Items => false,
+        Inside::Further => false,
+    }
+}
+
+/// What a chunk is to an edit.
 pub fn role_in<D: Depot>(depot: &mut D, chunk: &ChunkAt, inside: Inside) -> Result<Role, DepotFault>
     requires inside { IsInside (chunk.now.body.at + chunk.now.body.len) (D.disk depot.old) }
     requires small { chunk.now.body.at + chunk.now.body.len < 2 ^ 63 }
-    ensures role { (b : List ℕ) → Holds (D.disk depot.old) b → IfOk result (λ role. role ≡ role_of inside (chunk_in b riff chunk.now)) }
+    ensures role { (b : List ℕ) → Holds (D.disk depot.old) b
+        → IfOk result (λ role. role ≡ role_of inside (chunk_in b riff chunk.now)) }
     ensures reads { ReadsOnly (D.disk depot.old) (D.disk depot.new) }
     ensures cause { HasCause (D.disk depot.old) (D.disk depot.new) result }
 {
@@ -115,7 +128,8 @@ fn kind_by(word: FourCc) -> TopKind
 pub fn top_kind<D: Depot>(depot: &mut D, chunk: &ChunkAt) -> Result<TopKind, DepotFault>
     requires inside { IsInside (chunk.now.body.at + chunk.now.body.len) (D.disk depot.old) }
     requires small { chunk.now.body.at + chunk.now.body.len < 2 ^ 63 }
-    ensures kind { (b : List ℕ) → Holds (D.disk depot.old) b → IfOk result (λ kind. IsKind (chunk_in b riff chunk.now) kind) }
+    ensures kind { (b : List ℕ) → Holds (D.disk depot.old) b
+        → IfOk result (λ kind. IsKind (chunk_in b riff chunk.now) kind) }
     ensures long { IfOk result (λ kind. (is_info_kind kind || is_hdrl_kind kind) ≡ true → 4 ≤ chunk.now.body.len) }
     ensures reads { ReadsOnly (D.disk depot.old) (D.disk depot.new) }
     ensures cause { HasCause (D.disk depot.old) (D.disk depot.new) result }

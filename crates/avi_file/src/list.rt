@@ -5,9 +5,9 @@ ghost use Rattle.me_disk.specs.Holds.{Holds, Inside as IsInside};
 ghost use Rattle.me_disk.specs.Steps.{ReadsOnly};
 ghost use Rattle.container_model.specs.Chunk.{Chunk, ends, riff, spell};
 ghost use Rattle.riff_form.specs.Walk.{InOrder, chunk_in, row};
-ghost use Rattle.avi_file.specs.Walk.{KeepsPlaces, Reads, StandsAt, chunk_told, end_told, is_essence, is_items, list_told, plain_told, role_of, run_told};
+ghost use Rattle.avi_file.specs.Walk.{KeepsPlaces, Reads, StandsAt, carries, chunk_told, end_told, is_essence, is_items, list_told, plain_told, role_of, run_told};
 
-use crate::kind::{Inside, role_in};
+use crate::kind::{Inside, is_carrier, role_in};
 use me_disk::Depot;
 use part_tree::{FourCc, Part, ReadFault, Role, Span, Why};
 use riff_form::{ChunkAt, StepFault, Walker};
@@ -25,7 +25,7 @@ pub struct Reading {
     pub streams: Vec<Span>,
 }
 
-// Whether a part is a list of fields.
+/// Whether a part is a list of fields.
 pub fn is_info(role: Role) -> bool
     ensures { result ≡ is_items role }
 {
@@ -35,19 +35,28 @@ pub fn is_info(role: Role) -> bool
     }
 }
 
-/// Takes a chunk as a part with this role. `TooManyParts` where 65,536 chunks were met, and `CarrierBig` where it is a list of
-/// fields of more than 16 MiB.
-pub fn put_part(reading: &mut Reading, chunk: &ChunkAt, role: Role) -> Result<(), ReadFault>
+/// Takes a chunk as a part with this role. `TooManyParts` where 65,536 chunks were met, and `CarrierBig` where it is a carrier,
+/// a field or a list of fields, of more than 16 MiB.
+pub fn put_part(
+    reading: &mut Reading,
+    chunk: &ChunkAt,
+    role: Role,
+    carrier: bool,
+) -> Result<(), ReadFault>
     requires order { InOrder chunk.now.at chunk.now.next chunk.now }
-    ensures took { (c : Chunk) → StandsAt c chunk.now → Reads (chunk_told (is_items role) role chunk.now.at c) reading.old reading.new result }
-    ensures placed { OnOk result (KeepsPlaces chunk.now.at chunk.now.next chunk.now.next reading.old.parts.items reading.new.parts.items) }
-    ensures inside { is_essence role ≡ false → OnOk result (KeepsPlaces chunk.now.at chunk.now.at chunk.now.next reading.old.parts.items reading.new.parts.items) }
+    ensures took { (c : Chunk) → StandsAt c chunk.now
+        → Reads (chunk_told carrier role chunk.now.at c) reading.old reading.new result }
+    ensures placed { OnOk result
+        (KeepsPlaces chunk.now.at chunk.now.next chunk.now.next reading.old.parts.items reading.new.parts.items) }
+    ensures inside { is_essence role ≡ false
+        → OnOk result
+        (KeepsPlaces chunk.now.at chunk.now.at chunk.now.next reading.old.parts.items reading.new.parts.items) }
     ensures never { result ≡ Err ReadFault.Depot → ⊥ }
 {
     if reading.met >= MOST_PARTS {
         return Err(ReadFault::Why(Why::TooManyParts));
     }
-    if is_info(role) && chunk.body.len > MOST_BYTES {
+    if carrier && chunk.body.len > MOST_BYTES {
         return Err(ReadFault::Why(Why::CarrierBig {
             id: chunk.id,
             len: chunk.body.len,
@@ -71,7 +80,8 @@ pub fn put_part(reading: &mut Reading, chunk: &ChunkAt, role: Role) -> Result<()
 pub fn put_rest(reading: &mut Reading, at: u64, end: u64) -> Result<(), ReadFault>
     requires order { at ≤ end }
     requires least { 8 ≤ at }
-    ensures took { (left : List ℕ) → at + length left ≡ end → Reads (end_told at ends left) reading.old reading.new result }
+    ensures took { (left : List ℕ) → at + length left ≡ end
+        → Reads (end_told at ends left) reading.old reading.new result }
     ensures placed { OnOk result (KeepsPlaces at end end reading.old.parts.items reading.new.parts.items) }
     ensures never { result ≡ Err ReadFault.Depot → ⊥ }
 {
@@ -114,8 +124,9 @@ fn take_chunk<D: Depot>(
     requires small { chunk.now.next < 2 ^ 63 }
     requires order { InOrder chunk.now.at chunk.now.next chunk.now }
     ensures took { (b : List ℕ) → Holds (D.disk depot.old) b → chunk.now.at + length (spell (chunk_in b riff chunk.now)) ≡ chunk.now.next
-        → Reads (chunk_told false (role_of inside (chunk_in b riff chunk.now)) chunk.now.at (chunk_in b riff chunk.now)) reading.old reading.new result }
-    ensures placed { OnOk result (KeepsPlaces chunk.now.at chunk.now.next chunk.now.next reading.old.parts.items reading.new.parts.items) }
+        → Reads (chunk_told (carries inside (chunk_in b riff chunk.now)) (role_of inside (chunk_in b riff chunk.now)) chunk.now.at (chunk_in b riff chunk.now)) reading.old reading.new result }
+    ensures placed { OnOk result
+        (KeepsPlaces chunk.now.at chunk.now.next chunk.now.next reading.old.parts.items reading.new.parts.items) }
     ensures reads { ReadsOnly (D.disk depot.old) (D.disk depot.new) }
     ensures cause { result ≡ Err ReadFault.Depot → Rose (D.disk depot.old).faults (D.disk depot.new).faults }
 {
@@ -123,12 +134,12 @@ fn take_chunk<D: Depot>(
         Err(_) => return Err(ReadFault::Depot),
         Ok(role) => role,
     };
-    put_part(reading, chunk, role)
+    put_part(reading, chunk, role, is_carrier(chunk, inside))
 }
 
 /// Reads the chunks that stand from a place up to an end, of which none is opened: each is a part more, and so is their rest.
-/// `TooManyParts` where more than 65,536 chunks were met, and `Truncated` where a chunk ends past the end, whichever comes
-/// first.
+/// `TooManyParts` where more than 65,536 chunks were met, `CarrierBig` where a stream's name has more than 16 MiB, and
+/// `Truncated` where a chunk ends past the end, whichever comes first.
 pub fn read_chunks<D: Depot>(
     reading: &mut Reading,
     depot: &mut D,
@@ -140,7 +151,8 @@ pub fn read_chunks<D: Depot>(
     requires small { end < 2 ^ 63 }
     requires order { start ≤ end }
     requires least { 8 ≤ start }
-    ensures run { (b : List ℕ) → Holds (D.disk depot.old) b → Reads (run_told (plain_told (role_of inside)) start (row b start end)) reading.old reading.new result }
+    ensures run { (b : List ℕ) → Holds (D.disk depot.old) b
+        → Reads (run_told (plain_told inside) start (row b start end)) reading.old reading.new result }
     ensures placed { OnOk result (KeepsPlaces start end end reading.old.parts.items reading.new.parts.items) }
     ensures reads { ReadsOnly (D.disk depot.old) (D.disk depot.new) }
     ensures cause { result ≡ Err ReadFault.Depot → Rose (D.disk depot.old).faults (D.disk depot.new).faults }

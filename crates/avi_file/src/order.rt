@@ -32,7 +32,8 @@ fn check_apart(chunks: &[IndexChunk]) -> Result<(), ReadFault>
 /// The chunks by place, none of which overlaps the one before it, or why the file is refused.
 pub fn by_place(alloc: Global, chunks: &[IndexChunk]) -> Result<Vec<IndexChunk>, ReadFault>
     requires sound { AreSound chunks.now }
-    ensures order { (b : List ℕ) (ts : List Table) → AllByRecursion (IsNamed b) ts → chunks.now ≡ map kept_of ts → Orders ts result }
+    ensures order { (b : List ℕ) (ts : List Table) → AllByRecursion (IsNamed b) ts → chunks.now ≡ map kept_of ts
+        → Orders ts result }
     ensures sound { IfOk result (λ sorted. AreSound sorted.items) }
     ensures ascend { IfOk result (λ sorted. Ascends 0 (bodies_in sorted.items)) }
     ensures same { IfOk result (λ sorted. length sorted.items ≡ length chunks.now) }

@@ -20,6 +20,10 @@ const FILE: &[u8] =
 const LOST: &[u8] =
     b"RIFF\x40\0\0\0AVI LIST\x04\0\0\0hdrlLIST\x10\0\0\0movi00db\x04\0\0\0abcdidx1\x10\0\0\x0001db\x10\0\0\0\x04\0\0\0\x04\0\0\0";
 
+// Two streams, of which the first has a name.
+const NAMED: &[u8] =
+    b"RIFF\x40\0\0\0AVI LIST\x28\0\0\0hdrlLIST\x10\0\0\0strlstrn\x03\0\0\0Hi\0\0LIST\x04\0\0\0strlLIST\x04\0\0\0movi";
+
 const NO_MOVI: &[u8] = b"RIFF\x10\0\0\0AVI LIST\x04\0\0\0hdrl";
 
 // A depot that holds these bytes.
@@ -82,9 +86,7 @@ fn files_are_refused(rt: HostRuntime) -> Result<(), Fail> {
 
 #[test]
 fn a_file_has_its_map(rt: HostRuntime) -> Result<(), Fail> {
-    let Ok(map) = read(rt.alloc(), FILE) else {
-        return Ok(());
-    };
+    let map = read(rt.alloc(), FILE)?;
     assert_eq!(rt; map.forms.len(), 2);
     assert_eq!(rt; map.parts.len(), 7);
     assert_eq!(rt; map.movis.last().copied(), Some(Span { at: 114, len: 4 }));
@@ -93,5 +95,16 @@ fn a_file_has_its_map(rt: HostRuntime) -> Result<(), Fail> {
     let names = map.fields.get(&FieldName::Info(FourCc(*b"INAM")));
     assert_eq!(rt; names.len(), 1);
     assert_eq!(rt; names[0].raw.as_slice(), b"A\0".as_slice());
+    Ok(())
+}
+
+#[test]
+fn streams_have_their_names(rt: HostRuntime) -> Result<(), Fail> {
+    let map = read(rt.alloc(), NAMED)?;
+    assert_eq!(rt; map.streams.len(), 2);
+    let names = map.fields.get(&FieldName::Stream(0));
+    assert_eq!(rt; names.len(), 1);
+    assert_eq!(rt; names[0].raw.as_slice(), b"Hi\0".as_slice());
+    assert_eq!(rt; map.fields.get(&FieldName::Stream(1)).len(), 0);
     Ok(())
 }

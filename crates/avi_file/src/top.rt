@@ -11,7 +11,7 @@ ghost use Rattle.avi_file.specs.Walk.{IsKind, KeepsPlaces, Reads, has_hdrl, insi
 
 use crate::hdrl::read_hdrl;
 use crate::kind::{Inside, TopKind, is_hdrl, is_idx1, top_kind};
-use crate::list::{Reading, put_part, put_rest, read_chunks};
+use crate::list::{Reading, is_info, put_part, put_rest, read_chunks};
 use me_disk::Depot;
 use part_tree::{ReadFault, Role, Why};
 use riff_form::{ChunkAt, StepFault, Walker};
@@ -50,8 +50,12 @@ fn open_top<D: Depot>(
     requires small { chunk.now.next < 2 ^ 63 }
     requires order { InOrder chunk.now.at chunk.now.next chunk.now }
     requires long { (is_info_kind kind || is_hdrl_kind kind) ≡ true → 4 ≤ chunk.now.body.len }
-    ensures opened { (b : List ℕ) → Holds (D.disk depot.old) b → Reads (inside_told (not seen && is_hdrl_kind kind) (is_info_kind kind) chunk.now.at (chunk_in b riff chunk.now)) reading.old reading.new result }
-    ensures placed { OnOk result (KeepsPlaces chunk.now.at chunk.now.next chunk.now.next reading.old.parts.items reading.new.parts.items) }
+    ensures opened { (b : List ℕ) → Holds (D.disk depot.old) b
+        → Reads
+        (inside_told (not seen && is_hdrl_kind kind) (is_info_kind kind) chunk.now.at (chunk_in b riff chunk.now))
+        reading.old reading.new result }
+    ensures placed { OnOk result
+        (KeepsPlaces chunk.now.at chunk.now.next chunk.now.next reading.old.parts.items reading.new.parts.items) }
     ensures same { is_movi_kind kind ≡ true → reading.new.parts.items ≡ reading.old.parts.items }
     ensures reads { ReadsOnly (D.disk depot.old) (D.disk depot.new) }
     ensures cause { result ≡ Err ReadFault.Depot → Rose (D.disk depot.old).faults (D.disk depot.new).faults }
@@ -86,9 +90,13 @@ fn take_top<D: Depot>(top: &mut Top, depot: &mut D, chunk: &ChunkAt) -> Result<(
     requires order { InOrder chunk.now.at chunk.now.next chunk.now }
     ensures took { (b : List ℕ) → Holds (D.disk depot.old) b → chunk.now.at + length (spell (chunk_in b riff chunk.now)) ≡ chunk.now.next
         → Reads (opened_top top.old.hdrl top.old.idx1 chunk.now.at (chunk_in b riff chunk.now)) top.old.reading top.new.reading result }
-    ensures hdrl { (b : List ℕ) → Holds (D.disk depot.old) b → OnOk result (top.new.hdrl ≡ (top.old.hdrl || is_type (codes "hdrl") (chunk_in b riff chunk.now))) }
-    ensures idx1 { (b : List ℕ) → Holds (D.disk depot.old) b → OnOk result (top.new.idx1 ≡ (top.old.idx1 || has_id (codes "idx1") (chunk_in b riff chunk.now))) }
-    ensures placed { OnOk result (KeepsPlaces chunk.now.at chunk.now.next chunk.now.next top.old.reading.parts.items top.new.reading.parts.items) }
+    ensures hdrl { (b : List ℕ) → Holds (D.disk depot.old) b
+        → OnOk result (top.new.hdrl ≡ (top.old.hdrl || is_type (codes "hdrl") (chunk_in b riff chunk.now))) }
+    ensures idx1 { (b : List ℕ) → Holds (D.disk depot.old) b
+        → OnOk result (top.new.idx1 ≡ (top.old.idx1 || has_id (codes "idx1") (chunk_in b riff chunk.now))) }
+    ensures placed { OnOk result
+        (KeepsPlaces chunk.now.at chunk.now.next chunk.now.next top.old.reading.parts.items
+        top.new.reading.parts.items) }
     ensures reads { ReadsOnly (D.disk depot.old) (D.disk depot.new) }
     ensures cause { result ≡ Err ReadFault.Depot → Rose (D.disk depot.old).faults (D.disk depot.new).faults }
 {
@@ -96,7 +104,8 @@ fn take_top<D: Depot>(top: &mut Top, depot: &mut D, chunk: &ChunkAt) -> Result<(
         Err(_) => return Err(ReadFault::Depot),
         Ok(kind) => kind,
     };
-    match put_part(&mut top.reading, chunk, role_by(kind, top.idx1)) {
+    let role = role_by(kind, top.idx1);
+    match put_part(&mut top.reading, chunk, role, is_info(role)) {
         Err(fault) => return Err(fault),
         Ok(()) => {}
     }
@@ -121,8 +130,11 @@ pub fn read_top<D: Depot>(
     requires small { end < 2 ^ 63 }
     requires order { start ≤ end }
     requires least { 8 ≤ start }
-    ensures run { (b : List ℕ) → Holds (D.disk depot.old) b → Reads (run_told (top_told top.old.hdrl top.old.idx1) start (row b start end)) top.old.reading top.new.reading result }
-    ensures hdrl { (b : List ℕ) → Holds (D.disk depot.old) b → OnOk result (top.new.hdrl ≡ (top.old.hdrl || has_hdrl (row b start end).chunks)) }
+    ensures run { (b : List ℕ) → Holds (D.disk depot.old) b
+        → Reads (run_told (top_told top.old.hdrl top.old.idx1) start (row b start end)) top.old.reading top.new.reading
+        result }
+    ensures hdrl { (b : List ℕ) → Holds (D.disk depot.old) b
+        → OnOk result (top.new.hdrl ≡ (top.old.hdrl || has_hdrl (row b start end).chunks)) }
     ensures placed { OnOk result (KeepsPlaces start end end top.old.reading.parts.items top.new.reading.parts.items) }
     ensures reads { ReadsOnly (D.disk depot.old) (D.disk depot.new) }
     ensures cause { result ≡ Err ReadFault.Depot → Rose (D.disk depot.old).faults (D.disk depot.new).faults }

@@ -31,7 +31,8 @@ fn stands_at<D: Depot>(
     requires indexes_ascend { Ascends 0 indexes.now }
     requires inside { Inside (place + 4) (D.disk depot.old) }
     requires small { place + 4 < 2 ^ 63 }
-    ensures stands { (b row : List ℕ) → Holds (D.disk depot.old) b → id.0 ≡ row_id row → IfOk result (λ stands. stands ≡ is_named_at b indexes.now row place) }
+    ensures stands { (b row : List ℕ) → Holds (D.disk depot.old) b → id.0 ≡ row_id row
+        → IfOk result (λ stands. stands ≡ is_named_at b indexes.now row place) }
     ensures reads { ReadsOnly (D.disk depot.old) (D.disk depot.new) }
     ensures cause { HasCause (D.disk depot.old) (D.disk depot.new) result }
 {
@@ -56,7 +57,8 @@ fn settle<D: Depot>(
     requires few { len < 2 ^ 63 }
     requires inside { Inside (movi.at + movi.len) (D.disk depot.old) }
     requires small { movi.at + movi.len < 2 ^ 63 }
-    ensures base { (b row : List ℕ) → Holds (D.disk depot.old) b → IsEntry row entry.now → SettlesBase b indexes.now movi row result }
+    ensures base { (b row : List ℕ) → Holds (D.disk depot.old) b → IsEntry row entry.now
+        → SettlesBase b indexes.now movi row result }
     ensures reads { ReadsOnly (D.disk depot.old) (D.disk depot.new) }
     ensures cause { result ≡ Err IndexFault.Depot → Rose (D.disk depot.old).faults (D.disk depot.new).faults }
 {
@@ -96,7 +98,8 @@ pub fn entry_base<D: Depot>(
     requires small { idx.at + idx.len < 2 ^ 63 }
     requires movi { Inside (movi.at + movi.len) (D.disk depot.old) }
     requires movi_small { movi.at + movi.len < 2 ^ 63 }
-    ensures base { (b : List ℕ) → Holds (D.disk depot.old) b → FindsBase b indexes.now movi (old_rows (slice b idx.at idx.len)) result }
+    ensures base { (b : List ℕ) → Holds (D.disk depot.old) b
+        → FindsBase b indexes.now movi (old_rows (slice b idx.at idx.len)) result }
     ensures reads { ReadsOnly (D.disk depot.old) (D.disk depot.new) }
     ensures cause { result ≡ Err IndexFault.Depot → Rose (D.disk depot.old).faults (D.disk depot.new).faults }
 {

@@ -101,7 +101,8 @@ pub fn check_idx1<D: Depot>(
     requires inside { Inside (idx.at + idx.len) (D.disk depot.old) }
     requires small { idx.at + idx.len < 2 ^ 63 }
     requires movi_small { movi.at + movi.len < 2 ^ 63 }
-    ensures entries { (b : List ℕ) → Holds (D.disk depot.old) b → JudgesRows (model_base base) movi indexes.now (old_rows (slice b idx.at idx.len)) result }
+    ensures entries { (b : List ℕ) → Holds (D.disk depot.old) b
+        → JudgesRows (model_base base) movi indexes.now (old_rows (slice b idx.at idx.len)) result }
     ensures few { IfOk result (λ n. n ≤ idx.len) }
     ensures reads { ReadsOnly (D.disk depot.old) (D.disk depot.new) }
     ensures cause { result ≡ Err IndexFault.Depot → Rose (D.disk depot.old).faults (D.disk depot.new).faults }

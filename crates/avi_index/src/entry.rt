@@ -53,7 +53,8 @@ pub fn read_entry<D: Depot>(
     requires small { table.at + table.len < 2 ^ 63 }
     requires there { 16 * (k + 1) ≤ table.len }
     requires window { IsWindow (D.disk depot.old) window.old }
-    ensures entry { (b : List ℕ) → Holds (D.disk depot.old) b → IfOk result (λ e. IsEntry (row_at (slice b table.at table.len) k) e) }
+    ensures entry { (b : List ℕ) → Holds (D.disk depot.old) b
+        → IfOk result (λ e. IsEntry (row_at (slice b table.at table.len) k) e) }
     ensures window { IsWindow (D.disk depot.new) window.new }
     ensures reads { ReadsOnly (D.disk depot.old) (D.disk depot.new) }
     ensures cause { HasCause (D.disk depot.old) (D.disk depot.new) result }

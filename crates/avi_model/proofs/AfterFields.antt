@@ -1,7 +1,7 @@
 -- An edit of an AVI file that keeps the rules of Base names INFO fields and streams that are there; and the fields read back, where the
 -- lists of fields and the names of the streams do.
-use Rattle.std.proofs.Common.{◌≡◌, ℕ, ◌+◌, ◌<◌, ◌≤◌, Bool, true, false, cond, eqb, ltb, List, [], ◌∷◌, ◌++◌, length, map, Option, Some, None, refl, sym, ap, subst, ◌∙◌, arith, inl, inr}
-use Rattle.std.specs.Prelude.{not, nat_lt, ◌⊎◌, ◌&&◌, ◌||◌, option_map}
+use Rattle.std.proofs.Common.{◌≡◌, ℕ, ◌<◌, ◌≤◌, Bool, true, false, cond, eqb, List, [], ◌∷◌, ◌++◌, length, map, Option, Some, None, refl, sym, ap, ◌∙◌, arith, inl, inr}
+use Rattle.std.specs.Prelude.{not, nat_lt, ◌⊎◌, ◌||◌, option_map}
 use Rattle.std.specs.List.{AllByRecursion, filter_map, cons_option, flat_map, list_any}
 use Rattle.std.specs.Str.{bytes_eq}
 use Rattle.std.proofs.lemmas.Bool.{ltb-true, ltb-false, le-ltb, eqb-true}
@@ -21,7 +21,9 @@ use Rattle.field_model.specs.Fields.{FieldMap, plain}
 use Rattle.field_model.specs.KindFacts.{has_field}
 use Rattle.field_model.specs.Rules.{too_long}
 use Rattle.field_model.specs.Update.{RawItem, effective, raw_change, raw_item, raw_items, update, updated_values}
+use Rattle.field_model.proofs.Changed.{raws_named}
 use Rattle.field_model.proofs.Kept.{Kept, base_kept}
+use Rattle.field_model.proofs.Same.{same_either}
 use Rattle.container_model.specs.Items.{updated}
 use Rattle.container_model.proofs.Items.{same_true}
 use Rattle.carrier_model.specs.Info.{one_of, SetsInfo}
@@ -30,7 +32,7 @@ use Rattle.avi_model.specs.Avi.{avi_of, strls}
 use Rattle.avi_model.specs.Edited.{info_edit, info_item, info_values}
 use Rattle.avi_model.specs.Heads.{nth_names}
 use Rattle.avi_model.specs.Named.{Name, Names, names_after}
-use Rattle.avi_model.proofs.Edited.{named_raw, same_either, unheld_lists, unnamed}
+use Rattle.avi_model.proofs.Edited.{unheld_lists, unnamed}
 
 -- ---- the items of an edit
 
@@ -198,7 +200,7 @@ read_back o n e streams rules v w (Info id) h = go (one_of info_ids id.0) refl h
     go false i (inl k) = known k
     go false i (inr names) =
         ap (map plain) (unheld_lists id.0 i (avi_of n).children)
-        ∙ sym (ap (λ (x : List (List ℕ)). updated_values (raw_items (all_fields o) e) (Info id) (map plain x)) (unheld_lists id.0 i (avi_of o).children) ∙ unnamed id i (raw_items (all_fields o) e) (named_raw (all_fields o) e names))
+        ∙ sym (ap (λ (x : List (List ℕ)). updated_values (raw_items (all_fields o) e) (Info id) (map plain x)) (unheld_lists id.0 i (avi_of o).children) ∙ unnamed id i (raw_items (all_fields o) e) (raws_named IsFieldName (all_fields o) e names))
 read_back o n e streams rules v w (Stream k) h = ap (map plain) (w k) ∙ names_same streams (raw_items (all_fields o) e) k (nth_names k (strls (avi_of o))) rules
 read_back o n e streams rules v w (Whole id) h = sym (other_name streams (Whole id) (no_whole streams id) (raw_items (all_fields o) e) rules)
 read_back o n e streams rules v w (User id) h = sym (other_name streams (User id) (no_user streams id) (raw_items (all_fields o) e) rules)

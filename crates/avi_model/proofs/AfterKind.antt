@@ -1,6 +1,6 @@
 -- What is proved of AVI files whose streams have names as a kind of files: an edit without effect, sizes, edits that come to the same,
 -- and what fields can be.
-use Rattle.std.proofs.Common.{◌≡◌, ℕ, ◌≤◌, ◌^◌, Bool, true, false, cond, List, [], ◌∷◌, length, None, refl, ap, subst, ◌∙◌, inl, inr}
+use Rattle.std.proofs.Common.{◌≡◌, ℕ, ◌≤◌, ◌^◌, List, [], ◌∷◌, length, None, refl, ap, subst, ◌∙◌, inl, inr}
 use Rattle.std.specs.Prelude.{◌⊎◌, ◌-◌}
 use Rattle.std.specs.List.{filter_map}
 use Rattle.part_tree.specs.declared.field.EditItem.{EditItem}
@@ -9,9 +9,8 @@ use Rattle.field_model.specs.Lawful.{IsLawful}
 use Rattle.field_model.specs.Update.{effective, raw_item}
 use Rattle.container_model.specs.Tests.{first}
 use Rattle.avi_model.specs.After.{Changes, all_changes, all_fields, avi_after, changed_by, changed_file, checks_after, file_after, goes, large_after, large_by}
-use Rattle.avi_model.specs.Avi.{avi_of, inner}
+use Rattle.avi_model.specs.Avi.{avi_of}
 use Rattle.avi_model.specs.Kind.{avi_kind}
-use Rattle.avi_model.specs.Large.{limit32}
 use Rattle.avi_model.specs.RoomAfter.{patches_by, room_by}
 use Rattle.avi_model.proofs.AsKind.{all_effective}
 use Rattle.avi_model.proofs.Fit.{checks_fit}

@@ -10,7 +10,7 @@ use Rattle.container_model.specs.Splice.{Cut}
 use Rattle.container_model.specs.Units.{Cell, kept, gap, edited, live, lacks_pad, Piece, replaced, Slot, shut, begun, is_empty, closed, kept_next, units, lead_pad, unit_bytes, padded, Fill, lay, cut_of, cuts}
 use Rattle.container_model.specs.Deep.{Token}
 use Rattle.container_model.specs.Items.{Item}
-use Rattle.carrier_model.specs.Cells.{Change, leave, become, change_at, counted, count_all, settle, settle_cells, changed_cell, behind, meets, some_meets, beside, insert, only_gaps, new_cell, insert_cell, acted_cells}
+use Rattle.carrier_model.specs.Cells.{Change, leave, become, change_at, counted, count_all, settle, settle_cells, changed_cell, behind, meets, some_meets, insert, only_gaps, new_cell, insert_cell, acted_cells}
 use Rattle.carrier_model.specs.Info.{info, info_items}
 use Rattle.carrier_model.specs.Lists.{items_of, all_items, home, edit_nth, has_carrier, sets_some, new_carrier, lists_act_by, edit_list_cells}
 use Rattle.avi_model.specs.NewFile.{Items}

@@ -1,6 +1,5 @@
 -- Chunks that go in two steps, and the chunks of a list that goes as one.
-use Rattle.std.proofs.Common.{◌≡◌, ℕ, ◌+◌, ◌<◌, ◌≤◌, Bool, List, [], ◌∷◌, ◌++◌, length, map, refl, sym, ap, subst, ◌∙◌, arith}
-use Rattle.std.specs.Prelude.{codes}
+use Rattle.std.proofs.Common.{◌≡◌, ℕ, ◌+◌, ◌≤◌, Bool, List, [], ◌∷◌, ◌++◌, length, map, refl, sym, ap, subst, ◌∙◌, arith}
 use Rattle.std.specs.List.{flat_map, AllByRecursion}
 use Rattle.std.proofs.lemmas.List.{length-append}
 use Rattle.container_model.specs.Chunk.{Chunk, spell, spell_all}
@@ -11,8 +10,8 @@ use Rattle.container_model.proofs.Deep.{alike_len}
 use Rattle.container_model.proofs.Stay.{Rigid, rigid_part}
 use Rattle.container_model.proofs.Stood.{carried_to, only_map}
 use Rattle.container_model.proofs.Written.{renew, renew_alike}
-use Rattle.carrier_model.specs.Info.{is_type, list_run}
-use Rattle.avi_model.specs.Avi.{has_id, kids}
+use Rattle.carrier_model.specs.Info.{list_run}
+use Rattle.avi_model.specs.Avi.{kids}
 use Rattle.avi_model.proofs.Laid.{Carried}
 
 -- a range that goes as one in each of two steps

@@ -2,7 +2,7 @@
 use Rattle.std.proofs.Common.{◌≡◌, ℕ, suc, ◌^◌, ◌<◌, Bool, true, false, cond, List, [], ◌∷◌, ◌++◌, length, map, Option, Some, None, refl, sym, ap, subst, ◌∙◌, arith, inl, inr}
 use Rattle.std.specs.Prelude.{◌||◌, ◌⊎◌, option_map}
 use Rattle.std.specs.Str.{bytes_eq}
-use Rattle.std.specs.List.{filter_map, list_any, cons_option, AllByRecursion}
+use Rattle.std.specs.List.{list_any, AllByRecursion}
 use Rattle.me_bytes.specs.Bytes.{IsBytes}
 use Rattle.part_tree.specs.Names.{IsFieldName, info_ids, same_name}
 use Rattle.part_tree.specs.declared.names.FourCc.{FourCc}
@@ -13,17 +13,16 @@ use Rattle.part_tree.specs.declared.field.RuleSet.TheVariants.{Base}
 use Rattle.part_tree.specs.declared.field.Value.{Value}
 use Rattle.part_tree.specs.declared.names.Kind.TheVariants.{Avi}
 use Rattle.field_model.specs.Broken.{broken}
-use Rattle.field_model.specs.Fields.{FieldMap, plain}
+use Rattle.field_model.specs.Fields.{plain}
 use Rattle.field_model.specs.Kind.{NamesFields}
-use Rattle.field_model.specs.Raw.{raw_of}
-use Rattle.field_model.specs.Update.{RawItem, effective, has_effect, raw_change, raw_item, raw_items, updated_values, is_bext, update}
-use Rattle.part_tree.specs.declared.field.Change.{Change}
-use Rattle.part_tree.specs.declared.field.Change.TheVariants.{Set, Remove}
+use Rattle.field_model.specs.Update.{RawItem, raw_items, updated_values, is_bext, update}
+use Rattle.field_model.proofs.Changed.{raws_named}
+use Rattle.field_model.proofs.Same.{same_either}
 use Rattle.container_model.specs.Chunk.{riff, Chunk}
 use Rattle.container_model.specs.Items.{updated, values}
 use Rattle.container_model.specs.Tests.{first}
 use Rattle.container_model.specs.Splice.{Cut, splice, Ascend, Outside, shift}
-use Rattle.container_model.proofs.Items.{same_true, same_refl}
+use Rattle.container_model.proofs.Items.{same_true}
 use Rattle.carrier_model.specs.Info.{one_of, info, info_items, SetsInfo}
 use Rattle.carrier_model.specs.Lists.{list_values, Node, place_by, place_nth, has_list}
 use Rattle.avi_model.specs.Avi.{Avi as AviFile, avi_of, inner, spell_avi}
@@ -61,7 +60,7 @@ place_none h n (Node.list ts rest ∷ k) = ap (λ (x : List Node). Node.list ts 
 place_none h n (Node.sign id ∷ k) = ap (λ (x : List Node). Node.sign id ∷ x) (place_none h n k)
 place_none h n (Node.other form id body ∷ k) = ap (λ (x : List Node). Node.other form id body ∷ x) (place_none h n k)
 
-placed_none : (k : Kept) → placed k [] ≡ k
+pub placed_none : (k : Kept) → placed k [] ≡ k
 placed_none k = ap (λ (x : List Node). record k { nodes = x }) (go (has_list k.nodes))
   where
     go : (t : Bool) → place_by {V = List ℕ} home [] k.nodes t ≡ k.nodes
@@ -102,15 +101,6 @@ items_law o [] bytes s sets none = nothing_done o s
 items_law o (i ∷ e) bytes s sets none = some_done o bytes s (i ∷ e) (fits_of o i e none) sets
 
 -- ---- the fields
-
-pub same_either : (a b : List ℕ) → bytes_eq a b ≡ bytes_eq b a
-same_either a b = go (bytes_eq a b) (bytes_eq b a) refl refl
-  where
-    go : (t u : Bool) → bytes_eq a b ≡ t → bytes_eq b a ≡ u → t ≡ u
-    go true true e i = refl
-    go false false e i = refl
-    go true false e i = let same : a ≡ b = same_true a b e in let yes : bytes_eq b a ≡ true = rw same (same_refl b) in absurd cc
-    go false true e i = let same : b ≡ a = same_true b a i in let yes : bytes_eq a b ≡ true = rw same (same_refl a) in absurd cc
 
 -- the values of an INFO field
 values_same : (rs : List RawItem) (id : FourCc) (vs : List (List ℕ)) → one_of info_ids id.0 ≡ true → AreInfo rs → map plain (updated (info_edit rs) id.0 vs) ≡ updated_values rs (Info id) (map plain vs)
@@ -199,27 +189,6 @@ unnamed id n (r ∷ rs) h = ap (λ (t : Bool). updated_values rs (Info id) (cond
     apart (Key j) g = refl
     apart (Stream j) g = refl
 
-given : (name : FieldName) (change : Change) (rs : List RawItem) → IsFieldName name → NameFields rs → NameFields (cons_option (raw_change name change) rs)
-given name (Set text) rs n h = go (raw_of name text)
-  where
-    go : (raw : Option (List ℕ)) → NameFields (cons_option (option_map (λ (x : List ℕ). Rattle.field_model.specs.Update.written name x) raw) rs)
-    go None = h
-    go (Some raw) = (n, h)
-given (Bext field) Remove rs n h = (n, h)
-given (Info id) Remove rs n h = (n, h)
-given (Whole id) Remove rs n h = (n, h)
-given (User id) Remove rs n h = (n, h)
-given (Key k) Remove rs n h = (n, h)
-given (Stream k) Remove rs n h = (n, h)
-
-pub named_raw : (f : FieldMap) (e : List EditItem) → NamesFields e → NameFields (raw_items f e)
-named_raw f [] h = tt
-named_raw f (i ∷ e) h = go (has_effect f i) (named_raw f e h.1)
-  where
-    go : (t : Bool) → NameFields (raw_items f e) → NameFields (filter_map raw_item (cond t (i ∷ effective f e) (effective f e)))
-    go true g = given i.name i.change (raw_items f e) h.0 g
-    go false g = g
-
 -- The fields of the new file are the old ones updated.
 pub read_back : (o n : List ℕ) (e : List EditItem) → broken Avi 0 (fields o) e Base ≡ None → ((id : List ℕ) → info_values n id ≡ updated (changes o e) id (info_values o id)) → (name : FieldName) → IsFieldName name ⊎ NamesFields e
     → fields n name ≡ update (fields o) e name
@@ -236,7 +205,7 @@ read_back o n e rules v (Info id) h = go (one_of info_ids id.0) refl h
     go false i (inl k) = known k
     go false i (inr names) =
         ap (map plain) (unheld_lists id.0 i (avi_of n).children)
-        ∙ sym (ap (λ (x : List (List ℕ)). updated_values (raw_items (fields o) e) (Info id) (map plain x)) (unheld_lists id.0 i (avi_of o).children) ∙ unnamed id i (raw_items (fields o) e) (named_raw (fields o) e names))
+        ∙ sym (ap (λ (x : List (List ℕ)). updated_values (raw_items (fields o) e) (Info id) (map plain x)) (unheld_lists id.0 i (avi_of o).children) ∙ unnamed id i (raw_items (fields o) e) (raws_named IsFieldName (fields o) e names))
 read_back o n e rules v (Whole id) h = sym (other_name (Whole id) (λ x. x) (raw_items (fields o) e) (items_give (fields o) e rules).0)
 read_back o n e rules v (User id) h = sym (other_name (User id) (λ x. x) (raw_items (fields o) e) (items_give (fields o) e rules).0)
 read_back o n e rules v (Key k) h = sym (other_name (Key k) (λ x. x) (raw_items (fields o) e) (items_give (fields o) e rules).0)

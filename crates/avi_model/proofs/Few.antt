@@ -27,7 +27,7 @@ use Rattle.avi_model.proofs.Types.{type_is, padding_id}
 -- ---- hdrl and the movi lists
 
 -- one for hdrl, and one for a movi list
-abbrev weight : Chunk → ℕ
+abbrev pub weight : Chunk → ℕ
 weight c = cond (is_type (codes "hdrl") c) 1 0 + cond (is_movi c) 1 0
 
 apart : (v w : List ℕ) → bytes_eq v w ≡ false → bytes_eq v v ≡ true → (c : Chunk) → is_type v c ≡ true → is_type w c ≡ true → ⊥
@@ -36,7 +36,7 @@ apart v w un own c h m =
     let clash : false ≡ true = sym un ∙ ap (bytes_eq v) (sym same) ∙ own in
     absurd cc
 
-weight_one : (c : Chunk) → weight c ≤ 1
+pub weight_one : (c : Chunk) → weight c ≤ 1
 weight_one c = go (is_type (codes "hdrl") c) (is_movi c) refl refl
   where
     go : (t u : Bool) → is_type (codes "hdrl") c ≡ t → is_movi c ≡ u → cond t 1 0 + cond u 1 0 ≤ 1
@@ -68,7 +68,7 @@ gap_weight c p = go (is_type (codes "hdrl") c) (is_movi c) refl refl
 
 -- ---- the cells that are kept
 
-abbrev kept_weight : List Cell → ℕ
+abbrev pub kept_weight : List Cell → ℕ
 kept_weight [] = 0
 kept_weight (kept c ∷ xs) = weight c + kept_weight xs
 kept_weight (gap c ∷ xs) = kept_weight xs
@@ -135,7 +135,7 @@ weight_inserted s t c (edited old now ∷ xs) = go (some_meets t now) (weight_in
     go true again = refl
     go false again = again
 
-weight_new : (a : Avi) (e : Items) → kept_weight (new_cells a e) ≡ kept_weight (map cell_of a.children)
+pub weight_new : (a : Avi) (e : Items) → kept_weight (new_cells a e) ≡ kept_weight (map cell_of a.children)
 weight_new a e = go (has_carrier info cs)
   where
     xs : List Cell
@@ -161,7 +161,7 @@ only_one p at c cs = go (p (record c { pad = [] }))
     go true = omega arith
     go false = omega arith
 
-weight_count : (at : ℕ) (cs : List Chunk) → length (only (is_type (codes "hdrl")) (stood at cs)) + length (only is_movi (stood at cs)) ≡ kept_weight (map cell_of cs)
+pub weight_count : (at : ℕ) (cs : List Chunk) → length (only (is_type (codes "hdrl")) (stood at cs)) + length (only is_movi (stood at cs)) ≡ kept_weight (map cell_of cs)
 weight_count at [] = refl
 weight_count at (c ∷ cs) =
     let more = weight_count (at + length (spell c)) cs in

@@ -109,7 +109,7 @@ module _ (o : List ℕ) (bytes : IsBytes o) (s : Supported o) (how : How) where
   pub same_cuts : (e : Items) → edit_cuts (renewed_avi (writes how o) (avi_of o)) e ≡ edit_cuts (avi_of o) e
   same_cuts e = cuts_same ws a e alone
 
-  others_end : others_place (avi_of o) ≤ length o
+  pub others_end : others_place (avi_of o) ≤ length o
   others_end = omega (arith, ap length (file_read o bytes s).spelled, length-append (spell (form_of a)) (behind a))
 
   pub ascends : (e : Items) → Ascend 0 (edit_cuts (avi_of o) e) (length o)

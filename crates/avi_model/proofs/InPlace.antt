@@ -48,39 +48,13 @@ use Rattle.avi_model.proofs.Still.{place_stays, past_stays}
 abbrev pub MadeIn : List ℕ → List ℕ → List Patch → Type 0
 MadeIn o n ps = (over (length n) ps o ≡ n) × SoundPatches (length o) (length n) ps
 
-module _ (o : List ℕ) (bytes : IsBytes o) (s : Supported o) (e : Items) (fits : units_fit (ends_file (avi_of o)) (units shut (new_cells (avi_of o) e)) ≡ true) where
+-- where no place in the essence moves
+module _ (o : List ℕ) (bytes : IsBytes o) (s : Supported o) (f : ℕ → ℕ) (stays : (m : Stood) → Among m (essence (avi_of o)) → (q : ℕ) → m.at + 8 ≤ q → q < m.at + 8 + length m.chunk.body → f q ≡ q) where
   abbrev a : Avi
   a = avi_of o
 
-  g : Ended (avi_of o)
-  g = ended o bytes s
-
-  abbrev f : ℕ → ℕ
-  f = shift (edit_cuts (avi_of o) e)
-
-  -- ---- places in the essence stay
-
-  in_stays : (m : Stood) → Among m (essence a) → (q : ℕ) → m.at + 8 ≤ q → q < m.at + 8 + length m.chunk.body → f q ≡ q
-  in_stays m i q low high = go (among_append (only is_movi (top a)) (flat_map (λ x. only is_movi (kids x)) (others_at a)) m i)
-    where
-      go : Among m (only is_movi (top a)) ⊎ Among m (flat_map (λ x. only is_movi (kids x)) (others_at a)) → f q ≡ q
-      go (inl j) =
-          let z = among_only is_movi (top a) m j in
-          let r = Rattle.avi_model.proofs.Among.stood_inside 12 a.children m z.0 in
-          let me = body_end m (among_all IsRiffHead (top a) (top_heads a g) m z.0) in
-          place_stays a e fits q (omega (arith, r.1, me, high))
-      go (inr j) =
-          let y = among_flat (λ x. only is_movi (kids x)) (others_at a) m j in
-          let z = among_only is_movi (kids y.from) m y.in_it in
-          let w = further_whole a g y.from y.from_among in
-          let k = kids_inside y.from w.bytes w.long m z.0 in
-          let r = others_range a g y.from y.from_among in
-          let ye = body_end y.from w.head in
-          let me = body_end m (among_all IsRiffHead (kids y.from) (kids_heads y.from) m z.0) in
-          past_stays a e fits q (omega (arith, k.0, r.0, low)) (omega (arith, k.0, k.1, r.0, r.1, low, high, me, ye))
-
   range_stays : (p n : ℕ) → in_one (movi_spans a) p n ≡ true → (q : ℕ) → p ≤ q → q < p + n → f q ≡ q
-  range_stays p n h q low high = let m = holder_of a p n h in in_stays m.movi m.movi_among q (omega (arith, m.low, low)) (omega (arith, m.high, high))
+  range_stays p n h q low high = let m = holder_of a p n h in stays m.movi m.movi_among q (omega (arith, m.low, low)) (omega (arith, m.high, high))
 
   -- ---- no table changes
 
@@ -168,26 +142,61 @@ module _ (o : List ℕ) (bytes : IsBytes o) (s : Supported o) (e : Items) (fits 
           let q = among_all (λ r. eqb (row_length r) 0 ≡ false → Rattle.avi_model.specs.Support.SoundRow (Rattle.avi_model.specs.Avi.first_movi a) (indexes o) r) (old_rows x.chunk.body) rows r j c in
           let m = Rattle.avi_model.proofs.Counted.first_holder o bytes s (row_offset r) (8 + row_length r) q.lies in
           let sixteen = Rattle.avi_model.proofs.Entries.row_length_is 16 (Rattle.avi_index.specs.Rows.count16 x.chunk.body) x.chunk.body (Rattle.avi_model.proofs.Pieces.holds_sixteen (Rattle.avi_index.specs.Rows.count16 x.chunk.body) x.chunk.body (Rattle.std.proofs.Math.Nat.div-mul-le_self (length x.chunk.body) 16)) r j in
-          (omega (arith, sixteen), in_stays m.movi m.movi_among (row_offset r) m.low (omega (arith, m.high)))
+          (omega (arith, sixteen), stays m.movi m.movi_among (row_offset r) m.low (omega (arith, m.high)))
 
   -- Every number stays as it is.
-  pub numbers_stay : renumbered (move (shift (edit_cuts (avi_of o) e))) o ≡ o
+  pub numbers_stay : renumbered (move f) o ≡ o
   numbers_stay = stands_written (writes (move f) o) o (all_among (AsItStands o) (writes (move f) o) (λ w i. go w (writes_of o bytes s (move f) w i)))
     where
       go : (w : Write) → Writes o bytes s (move f) w → AsItStands o w
       go w (of_index t i d) = subst (AsItStands o) d (subst (λ (x : List ℕ). AsItStands o (record { at = t.at; bytes = x })) (sym (index_same t i)) (index_stands o bytes s t i))
       go w (of_old x i d) = subst (AsItStands o) d (subst (λ (y : List ℕ). AsItStands o (record { at = x.at + 8; bytes = y })) (sym (old_same x i)) (old_stands o bytes s x i))
 
-  laid_same : laid_file o e ≡ spell_avi (laid a e)
+-- an edit of the lists of fields whose units fit
+module _ (o : List ℕ) (bytes : IsBytes o) (s : Supported o) (e : Items) (fits : units_fit (ends_file (avi_of o)) (units shut (new_cells (avi_of o) e)) ≡ true) where
+  abbrev avi : Avi
+  avi = avi_of o
+
+  g : Ended (avi_of o)
+  g = ended o bytes s
+
+  abbrev f : ℕ → ℕ
+  f = shift (edit_cuts (avi_of o) e)
+
+  -- ---- places in the essence stay
+
+  in_stays : (m : Stood) → Among m (essence avi) → (q : ℕ) → m.at + 8 ≤ q → q < m.at + 8 + length m.chunk.body → f q ≡ q
+  in_stays m i q low high = go (among_append (only is_movi (top avi)) (flat_map (λ x. only is_movi (kids x)) (others_at avi)) m i)
+    where
+      go : Among m (only is_movi (top avi)) ⊎ Among m (flat_map (λ x. only is_movi (kids x)) (others_at avi)) → f q ≡ q
+      go (inl j) =
+          let z = among_only is_movi (top avi) m j in
+          let r = Rattle.avi_model.proofs.Among.stood_inside 12 avi.children m z.0 in
+          let me = body_end m (among_all IsRiffHead (top avi) (top_heads avi g) m z.0) in
+          place_stays avi e fits q (omega (arith, r.1, me, high))
+      go (inr j) =
+          let y = among_flat (λ x. only is_movi (kids x)) (others_at avi) m j in
+          let z = among_only is_movi (kids y.from) m y.in_it in
+          let w = further_whole avi g y.from y.from_among in
+          let k = kids_inside y.from w.bytes w.long m z.0 in
+          let r = others_range avi g y.from y.from_among in
+          let ye = body_end y.from w.head in
+          let me = body_end m (among_all IsRiffHead (kids y.from) (kids_heads y.from) m z.0) in
+          past_stays avi e fits q (omega (arith, k.0, r.0, low)) (omega (arith, k.0, k.1, r.0, r.1, low, high, me, ye))
+
+  edit_numbers_stay : renumbered (move (shift (edit_cuts (avi_of o) e))) o ≡ o
+  edit_numbers_stay = numbers_stay o bytes s f in_stays
+
+  laid_same : laid_file o e ≡ spell_avi (laid avi e)
   unfolding laid_file
-  laid_same = ap (λ (x : List ℕ). spell_avi (laid (avi_of x) e)) numbers_stay
+  laid_same = ap (λ (x : List ℕ). spell_avi (laid (avi_of x) e)) edit_numbers_stay
 
   -- The patches make the new file, and are sound.
   pub made : form_room (riff_of (avi_of o)) (new_cells (avi_of o) e) ≡ true → MadeIn o (laid_file o e) (patches_of (avi_of o) e)
   made room =
-      let done = sound_in_place (riff_of a) (new_cells a e) (is_riff a) (was_new a e) refl room in
-      let from_o : MadeIn o (spell_avi (laid a e)) (patches_of a e) = subst (λ (x : List ℕ). MadeIn x (spell_avi (laid a e)) (patches_of a e)) (sym (is_file o bytes s)) done in
-      subst (λ (n : List ℕ). MadeIn o n (patches_of a e)) (sym laid_same) from_o
+      let done = sound_in_place (riff_of avi) (new_cells avi e) (is_riff avi) (was_new avi e) refl room in
+      let from_o : MadeIn o (spell_avi (laid avi e)) (patches_of avi e) = subst (λ (x : List ℕ). MadeIn x (spell_avi (laid avi e)) (patches_of avi e)) (sym (is_file o bytes s)) done in
+      subst (λ (n : List ℕ). MadeIn o n (patches_of avi e)) (sym laid_same) from_o
 
 -- For an edit of fields: no number changes, and its patches make its new file.
 module _ (o : List ℕ) (bytes : IsBytes o) (s : Supported o) (e : List EditItem) (r : Room o e) where
@@ -198,7 +207,7 @@ module _ (o : List ℕ) (bytes : IsBytes o) (s : Supported o) (e : List EditItem
   fit_of x d = (and_parts (units_fit (ends_file (avi_of o)) (units shut (new_cells (avi_of o) x))) (nat_le (all_bytes (patches_of (avi_of o) x)) (2 ^ 24)) (room_of x d)).0
 
   pub edit_stays : renumbered (move (shift (edit_cuts (avi_of o) (changes o e)))) o ≡ o
-  edit_stays = numbers_stay o bytes s (changes o e) (fit_of (changes o e) refl)
+  edit_stays = edit_numbers_stay o bytes s (changes o e) (fit_of (changes o e) refl)
 
   pub patches_make : MadeIn o (new_file o e) (patches o e)
   patches_make = go (changes o e) refl

@@ -1,9 +1,9 @@
 -- The lists of fields end again after an edit of them.
-use Rattle.std.proofs.Common.{◌≡◌, ℕ, ◌+◌, ◌^◌, ◌<◌, Bool, true, false, cond, List, [], ◌∷◌, ◌++◌, length, refl, sym, ap, subst}
+use Rattle.std.proofs.Common.{◌≡◌, ℕ, ◌+◌, Bool, true, false, cond, List, [], ◌∷◌, ◌++◌, length, refl, sym, ap, subst}
 use Rattle.std.specs.Prelude.{codes}
 use Rattle.std.specs.List.{flat_map, AllByRecursion}
 use Rattle.container_model.specs.Chunk.{Chunk, Stop, ends, spell}
-use Rattle.container_model.specs.Stood.{Stood, bare, stood, only}
+use Rattle.container_model.specs.Stood.{bare, stood, only}
 use Rattle.carrier_model.specs.Info.{info, info_items, is_type, list_run, SetsInfo}
 use Rattle.carrier_model.specs.Lists.{edit_lists}
 use Rattle.carrier_model.proofs.Info.{padding_no_list}

@@ -1,5 +1,5 @@
 -- Numbers written over the tables of a supported file leave the spans of an edit of fields and names, and what is laid is read again.
-use Rattle.std.proofs.Common.{◌≡◌, ℕ, ◌+◌, ◌^◌, ◌<◌, Bool, List, [], ◌++◌, length, map, sym, ap, subst, ◌∙◌, arith}
+use Rattle.std.proofs.Common.{◌≡◌, ℕ, ◌+◌, ◌^◌, ◌<◌, Bool, List, ◌++◌, length, map, sym, ap, subst, ◌∙◌, arith}
 use Rattle.std.specs.List.{AllByRecursion}
 use Rattle.std.proofs.lemmas.List.{length-append}
 use Rattle.me_bytes.specs.Bytes.{IsBytes}
@@ -76,7 +76,7 @@ module _ (o : List ℕ) (bytes : IsBytes o) (s : Supported o) (how : How) (e : C
   told : Told (riff_fill (ends_file a)) (units shut (new_cells nb e.infos)) (units shut (new_cells na e.infos))
   told = alike_told (riff_fill (ends_file a)) (new_cells nb e.infos) (new_cells na e.infos) (edit_alike e.infos (map cell_of nb.children) (map cell_of na.children) cells_alike)
 
-  named_long : length (spell_all nb.children) ≡ length (spell_all na.children)
+  pub named_long : length (spell_all nb.children) ≡ length (spell_all na.children)
   named_long = ap (λ (t : Bool). length (spell_all (children_named e.names t b.children))) (ends_same ws a) ∙ children_long ws e.names (ends_file a) 12 a.children stay
 
   laid_long : length (spell_all (children_after b e)) ≡ length (spell_all (children_after a e))

@@ -9,7 +9,7 @@ use Rattle.me_bytes.specs.Bytes.{IsBytes}
 use Rattle.part_tree.specs.Names.{IsFieldName}
 use Rattle.part_tree.specs.declared.field.EditItem.{EditItem}
 use Rattle.part_tree.specs.declared.field.FieldName.{FieldName}
-use Rattle.part_tree.specs.declared.field.FieldName.TheVariants.{Bext, Info, Whole, User, Key, Stream}
+use Rattle.part_tree.specs.declared.field.FieldName.TheVariants.{Info, Stream}
 use Rattle.part_tree.specs.declared.field.RuleSet.TheVariants.{Base}
 use Rattle.part_tree.specs.declared.field.Value.{Value}
 use Rattle.part_tree.specs.declared.names.Kind.TheVariants.{Avi as avi}
@@ -29,15 +29,15 @@ use Rattle.carrier_model.specs.Lists.{list_values, values_held}
 use Rattle.carrier_model.specs.Names.{is_name}
 use Rattle.container_model.specs.Items.{values}
 use Rattle.opendml_index.specs.Index.{move}
-use Rattle.avi_model.specs.After.{Changes, all_changes, all_fields, avi_after, children_after, goes, joined, joined_file, list_cuts, name_item}
+use Rattle.avi_model.specs.After.{Changes, all_changes, all_fields, children_after, goes, joined, joined_file, list_cuts, name_item}
 use Rattle.avi_model.specs.Avi.{Avi, avi_of, inner, kids, spell_avi, strls}
 use Rattle.avi_model.specs.Edited.{info_values}
-use Rattle.avi_model.specs.Heads.{names_in, nth_names}
-use Rattle.avi_model.specs.Index.{renumbered, writes}
+use Rattle.avi_model.specs.Heads.{nth_names}
+use Rattle.avi_model.specs.Index.{writes}
 use Rattle.avi_model.specs.Named.{Name, Names, children_named, ends_file, ends_list, hdrl_named, is_hdrl, is_strl, kid_named, kids_named, named, name_cuts, names_after}
 use Rattle.avi_model.specs.Pieces.{pieces}
 use Rattle.avi_model.specs.Support.{NamesSmall, Supported, SupportedNames, list_limit}
-use Rattle.avi_model.proofs.AfterFields.{AreAvi, Gives, HasNoLanguage, IsAviName, ShortName, ShortNames, items_give, name_edit, read_back}
+use Rattle.avi_model.proofs.AfterFields.{AreAvi, IsAviName, ShortName, ShortNames, items_give, name_edit, read_back}
 use Rattle.avi_model.proofs.Blanked.{pieces_same}
 use Rattle.avi_model.proofs.Children.{AreChildren, HdrlSmall, behind_one, kids_of}
 use Rattle.avi_model.proofs.Edit.{values_updated}

@@ -1,10 +1,9 @@
 -- Where the places of a file go with an edit of fields and names: they keep their order, and what stands behind the first form goes as one.
-use Rattle.std.proofs.Common.{◌≡◌, ℕ, ◌+◌, ◌-◌, ◌^◌, ◌<◌, ◌≤◌, Bool, List, [], ◌∷◌, ◌++◌, length, refl, sym, ap, subst, ◌∙◌, arith, inl, inr}
-use Rattle.std.specs.Prelude.{◌⊎◌}
+use Rattle.std.proofs.Common.{◌≡◌, ℕ, ◌+◌, ◌≤◌, List, [], ◌∷◌, length, refl, sym, arith, inr}
 use Rattle.std.proofs.lemmas.List.{length-append}
 use Rattle.me_bytes.specs.Bytes.{IsBytes}
-use Rattle.container_model.specs.Chunk.{spell, spell_all}
-use Rattle.container_model.specs.Splice.{Cut, end_of, shift, Ascend, Outside, gained, lost}
+use Rattle.container_model.specs.Chunk.{spell_all}
+use Rattle.container_model.specs.Splice.{Cut, end_of, shift, Ascend, Outside}
 use Rattle.container_model.specs.Units.{Piece, shut, units, cuts, lay}
 use Rattle.container_model.proofs.Goes.{Block, block_both, block_copy, block_pieces, wider}
 use Rattle.container_model.proofs.Places.{old_length}
@@ -56,7 +55,7 @@ module _ (o : List ℕ) (bytes : IsBytes o) (s : Supported o) (e : Changes) wher
   ps = units shut (new_cells (named (avi_of o) e.names) e.infos)
 
   -- the units, the rest and the pad
-  lists_block : Block 12 12 (8 + length (inner na.children na.left) + length a.pad) (8 + length (inner (children_after a e) a.left) + length (pad_after a e)) (list_cuts a e)
+  pub lists_block : Block 12 12 (8 + length (inner na.children na.left) + length a.pad) (8 + length (inner (children_after a e) a.left) + length (pad_after a e)) (list_cuts a e)
   lists_block =
       let fill = riff_fill (ends_file na) in
       let old = children_length na e.infos in
@@ -77,7 +76,7 @@ module _ (o : List ℕ) (bytes : IsBytes o) (s : Supported o) (e : Changes) wher
   pub names_ascend : Ascend 0 (name_cuts a e.names) (12 + length (spell_all a.children))
   names_ascend = wider 0 12 (12 + length (spell_all a.children)) (12 + length (spell_all a.children)) (name_cuts a e.names) (omega arith) (omega arith) names_block.ascend
 
-  lists_ascend : Ascend 0 (list_cuts a e) (8 + length (inner na.children na.left) + length a.pad)
+  pub lists_ascend : Ascend 0 (list_cuts a e) (8 + length (inner na.children na.left) + length a.pad)
   lists_ascend =
       wider 0 12 (8 + length (inner na.children na.left) + length a.pad) (8 + length (inner na.children na.left) + length a.pad) (list_cuts a e) (omega arith) (omega arith) lists_block.ascend
 

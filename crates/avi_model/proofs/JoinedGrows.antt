@@ -1,6 +1,6 @@
 -- No byte of the essence moves towards the start of the file by an edit of fields and names: the slots of the lists of fields and of
 -- the padding around them were there before the names were set, so padding can fill each of them.
-use Rattle.std.proofs.Common.{◌≡◌, ℕ, ◌+◌, ◌-◌, ◌^◌, ◌<◌, ◌≤◌, Bool, true, false, cond, List, [], ◌∷◌, ◌++◌, length, map, refl, sym, ap, subst, ◌∙◌, arith}
+use Rattle.std.proofs.Common.{◌≡◌, ℕ, ◌+◌, ◌-◌, ◌^◌, ◌<◌, ◌≤◌, Bool, true, false, cond, List, [], ◌∷◌, ◌++◌, length, map, refl, ap, subst, ◌∙◌, arith}
 use Rattle.std.specs.Prelude.{◌&&◌, not, codes}
 use Rattle.std.specs.Str.{bytes_eq}
 use Rattle.std.specs.List.{flat_map}
@@ -8,9 +8,9 @@ use Rattle.std.proofs.lemmas.List.{length-append}
 use Rattle.me_bytes.specs.Bytes.{IsBytes}
 use Rattle.container_model.specs.Chunk.{Chunk, spell, spell_all}
 use Rattle.container_model.specs.Items.{is_nil}
-use Rattle.container_model.specs.Splice.{Cut, shift, Outside, gained, lost}
-use Rattle.container_model.specs.Stood.{Stood, only}
-use Rattle.container_model.specs.Units.{Cell, kept, gap, edited, lacks_pad, Piece, copied, replaced, Slot, shut, begun, is_empty, closed, kept_next, units, live}
+use Rattle.container_model.specs.Splice.{shift, Outside}
+use Rattle.container_model.specs.Stood.{only}
+use Rattle.container_model.specs.Units.{Cell, kept, gap, edited, lacks_pad, Piece, Slot, shut, begun, is_empty, closed, kept_next, units, live}
 use Rattle.container_model.proofs.Copied.{Later, Moves_as_one}
 use Rattle.container_model.proofs.Places.{Before, old_length}
 use Rattle.container_model.proofs.Splice.{shift_order}
@@ -19,13 +19,13 @@ use Rattle.carrier_model.specs.Info.{info, info_items, is_padding, riff_fill}
 use Rattle.carrier_model.specs.Lists.{edit_list_cells, edit_nth, has_carrier, lists_act, lists_act_by, new_carrier, sets_some}
 use Rattle.carrier_model.specs.RiffForm.{pad_cut}
 use Rattle.opendml_index.specs.Index.{move}
-use Rattle.avi_model.specs.After.{Changes, children_after, goes, joined, list_cuts, pad_after}
+use Rattle.avi_model.specs.After.{Changes, children_after, goes, list_cuts, pad_after}
 use Rattle.avi_model.specs.Avi.{Avi, avi_of, inner, is_movi, top}
 use Rattle.avi_model.specs.Index.{writes}
 use Rattle.avi_model.specs.Named.{Names, cell_by, cell_of, children_named, ends_file, hdrl_named, is_hdrl, named, name_cuts}
 use Rattle.avi_model.specs.NewFile.{Items, home as behind_hdrl, new_cells}
 use Rattle.avi_model.specs.Support.{Supported}
-use Rattle.avi_model.proofs.Among.{Among, among_all, among_only, stood_inside}
+use Rattle.avi_model.proofs.Among.{among_all, among_only, stood_inside}
 use Rattle.avi_model.proofs.Children.{AreChildren, behind_one, kids_of}
 use Rattle.avi_model.proofs.Grows.{SlotsLow, cuts_grow, riff_grows, units_end}
 use Rattle.avi_model.proofs.JoinedGoes.{behind_block, children, names_ascend, names_block}
@@ -182,8 +182,8 @@ module _ (o : List ℕ) (bytes : IsBytes o) (s : Supported o) (e : Changes) wher
       let two = named_heavy e.names (ends_file a) a.children (children o bytes s e) in
       units_low shut (new_cells na e.infos) (omega (arith, one, two, short))
 
-  later : Later (12 + old_length (units shut (new_cells (named (avi_of o) e.names) e.infos))) (pad_cut (8 + length (inner na.children na.left)) a.pad (pad_after a e))
-  later q lt = go (bytes_eq a.pad (pad_after a e))
+  pub pad_behind : Later (12 + old_length (units shut (new_cells (named (avi_of o) e.names) e.infos))) (pad_cut (8 + length (inner na.children na.left)) a.pad (pad_after a e))
+  pad_behind q lt = go (bytes_eq a.pad (pad_after a e))
     where
       low : q < 8 + length (inner na.children na.left)
       low = omega (arith, lt, children_length na e.infos, length-append (spell_all na.children) na.left)
@@ -197,7 +197,7 @@ module _ (o : List ℕ) (bytes : IsBytes o) (s : Supported o) (e : Changes) wher
       omega (
         arith,
         cuts_grow (riff_fill (ends_file na)) (riff_grows (ends_file na)) 12 (units shut (new_cells na e.infos)) (units_end shut (new_cells na e.infos)) lists_low
-            (pad_cut (8 + length (inner na.children na.left)) a.pad (pad_after a e)) later q (omega (arith, lt, children_length na e.infos)),
+            (pad_cut (8 + length (inner na.children na.left)) a.pad (pad_after a e)) pad_behind q (omega (arith, lt, children_length na e.infos)),
       )
 
   pub essence_grows : length (inner (children_after (renewed_avi (writes (move (goes (avi_of o) e)) o) (avi_of o)) e) (avi_of o).left) < 2 ^ 32 → Grows o bytes s e

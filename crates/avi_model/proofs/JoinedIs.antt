@@ -1,5 +1,5 @@
 -- An edit of fields and names lays the first form as the laws need it, as long as no byte of the essence moves towards the start.
-use Rattle.std.proofs.Common.{◌≡◌, ℕ, ◌+◌, ◌^◌, ◌<◌, ◌≤◌, List, ◌++◌, length, refl, sym, ap, ◌∙◌, arith}
+use Rattle.std.proofs.Common.{◌≡◌, ℕ, ◌+◌, ◌^◌, ◌<◌, ◌≤◌, List, length, refl, sym, ap, ◌∙◌, arith}
 use Rattle.std.proofs.lemmas.List.{length-append}
 use Rattle.me_bytes.specs.Bytes.{IsBytes}
 use Rattle.container_model.specs.Splice.{shift, Outside}

@@ -1,11 +1,11 @@
 -- An edit of fields and names lays the first form as the laws need it.
-use Rattle.std.proofs.Common.{◌≡◌, ℕ, ◌+◌, ◌-◌, ◌<◌, Bool, true, false, cond, List, [], ◌∷◌, length, map, refl, ap, sym, subst, ◌∙◌, arith, ◌^◌, inl, inr}
-use Rattle.std.specs.Prelude.{◌&&◌, codes}
+use Rattle.std.proofs.Common.{◌≡◌, ℕ, ◌+◌, ◌<◌, Bool, true, false, cond, List, [], ◌∷◌, length, map, refl, ap, subst, ◌∙◌, arith, ◌^◌}
+use Rattle.std.specs.Prelude.{codes}
 use Rattle.std.specs.Str.{bytes_eq}
 use Rattle.std.specs.List.{flat_map, AllByRecursion}
 use Rattle.std.proofs.lemmas.List.{length-append}
 use Rattle.me_bytes.specs.Bytes.{IsBytes}
-use Rattle.container_model.specs.Chunk.{Chunk, spell, spell_all}
+use Rattle.container_model.specs.Chunk.{Chunk, spell_all}
 use Rattle.container_model.specs.Splice.{Cut, shift, Outside}
 use Rattle.container_model.specs.Stood.{Stood, bare, stood, only, first_of}
 use Rattle.container_model.specs.Units.{shut, units, was}
@@ -19,23 +19,21 @@ use Rattle.opendml_index.specs.Index.{move}
 use Rattle.avi_model.specs.After.{Changes, goes, joined, list_cuts, pad_after, children_after}
 use Rattle.avi_model.specs.Avi.{Avi, avi_of, has_id, hdrls, inner, is_movi, kids, old_indexes, strls, stream_indexes, top}
 use Rattle.avi_model.specs.Index.{writes}
-use Rattle.avi_model.specs.Named.{cell_of, children_named, ends_file, hdrl_named, is_hdrl, is_strl, name_cuts, named}
+use Rattle.avi_model.specs.Named.{cell_of, ends_file, is_hdrl, is_strl, name_cuts, named}
 use Rattle.avi_model.specs.NewFile.{new_cells}
 use Rattle.avi_model.specs.Support.{Supported}
-use Rattle.avi_model.proofs.Among.{all_among, Among, among_first, among_only, map_among, stood_inside}
+use Rattle.avi_model.proofs.Among.{all_among}
 use Rattle.avi_model.proofs.Carries.{KidsFit, found_moved, go_twice, kids_moved}
-use Rattle.avi_model.proofs.Children.{AreChildren, HdrlSmall, behind_one, children_follow, kids_of, moves_with, streams_follow}
+use Rattle.avi_model.proofs.Children.{HdrlSmall, children_follow, moves_with, streams_follow}
 use Rattle.avi_model.proofs.Frames.{opened}
 use Rattle.avi_model.proofs.JoinedCuts.{chunks_again, lists_same, names_same}
+use Rattle.avi_model.proofs.JoinedNodes.{named_small}
 use Rattle.avi_model.proofs.Laid.{Carried}
 use Rattle.avi_model.proofs.Levels.{Ended}
 use Rattle.avi_model.proofs.NamedLists.{AreListed, children_listed, listed_fit}
 use Rattle.avi_model.proofs.Past.{children_length}
 use Rattle.avi_model.proofs.Read.{renewed_avi}
 use Rattle.avi_model.proofs.Sound.{ended}
-use Rattle.container_model.specs.Items.{is_nil}
-use Rattle.avi_model.proofs.Respelled.{list_type}
-use Rattle.avi_model.proofs.Streams.{spell_long}
 use Rattle.avi_model.proofs.Tables.{Apart, Opened, fill_unseen, hdrl_apart, index_apart, movi_apart, quiet_cells, quiet_edit, was_new}
 use Rattle.avi_model.proofs.Types.{and_none, type_is}
 use Rattle.avi_model.proofs.Walk.{IsRiffHead, ids_carried, kids_all, lists_carried}
@@ -171,41 +169,25 @@ module _ (o : List ℕ) (bytes : IsBytes o) (s : Supported o) (e : Changes) wher
       subst (λ (cs : List Cut). Listed cs (only p (top nb)) (only p (top (joined b e)))) (lists_same o bytes s (move (goes (avi_of o) e)) e)
       (subst (λ (ys : List Stood). Listed (list_cuts b e) ys (only p (top (joined b e)))) is m)
 
-  -- ---- hdrl is short enough where the new form is
-
-  first_small : (last : Bool) (at : ℕ) (cs : List Chunk) → AreChildren cs → ((x : Stood) → Among x (first_of (only is_hdrl (stood at (children_named e.names last cs)))) → length x.chunk.body < 2 ^ 32) → HdrlSmall e.names last cs
-  first_small last at [] h k = tt
-  first_small last at (c ∷ cs) h k = (
-    (λ i.
-        let new = hdrl_named e.names (last && is_nil cs) c in
-        let y : Stood = record { at = at; chunk = bare new } in
-        let rest = only is_hdrl (stood (at + length (spell new)) cs) in
-        let typed : is_hdrl new ≡ true = list_type (codes "hdrl") c (kids_of e.names (last && is_nil cs) c) (h.1.0 i).0 ∙ i in
-        k y (subst (λ (b : Bool). Among y (first_of (only is_hdrl (stood at (cond b (new ∷ cs) (c ∷ children_named e.names last cs)))))) (sym i) (subst (λ (b : Bool). Among y (first_of (cond b (y ∷ rest) rest))) (sym typed) (inl refl)))),
-    (λ i.
-        let more = children_named e.names last cs in
-        let rest = only is_hdrl (stood (at + length (spell c)) more) in
-        first_small last (at + length (spell c)) cs (behind_one c cs h i)
-        (λ x j. k x (subst (λ (b : Bool). Among x (first_of (only is_hdrl (stood at (cond b (hdrl_named e.names (last && is_nil cs) c ∷ cs) (c ∷ more)))))) (sym i) (subst (λ (b : Bool). Among x (first_of (cond b (record { at = at; chunk = bare c } ∷ rest) rest))) (sym i) j)))),
-  )
-
   pub hdrl_small : length (inner (children_after (renewed_avi (writes (move (goes (avi_of o) e)) o) (avi_of o)) e) (avi_of o).left) < 2 ^ 32
       → HdrlSmall e.names (ends_file (renewed_avi (writes (move (goes (avi_of o) e)) o) (avi_of o))) (renewed_avi (writes (move (goes (avi_of o) e)) o) (avi_of o)).children
-  hdrl_small lt = first_small (ends_file b) 12 b.children (chunks_again o bytes s (move (goes (avi_of o) e)) e) one
-    where
-      one : (x : Stood) → Among x (hdrls nb) → length x.chunk.body < 2 ^ 32
-      one x i =
-          let j : Among x (only is_hdrl (top nb)) = among_first (only is_hdrl (top nb)) x i in
-          let moved : Among (moved_to (shift c2) x) (only is_hdrl (top (joined b e))) = subst (λ (xs : List Stood). Among (moved_to (shift c2) x) xs) (sym (top_listed is_hdrl hdrl_apart).0) (map_among (moved_to (shift c2)) (only is_hdrl (top nb)) x j) in
-          let k = among_only is_hdrl (top (joined b e)) (moved_to (shift c2) x) moved in
-          let inside = stood_inside 12 (children_after b e) (moved_to (shift c2) x) k.0 in
-          omega (arith, lt, inside.0, inside.1, spell_long x.chunk, length-append (spell_all (children_after b e)) a.left)
+  hdrl_small lt = named_small b e (chunks_again o bytes s (move (goes (avi_of o) e)) e) lt
+
+  -- tables and essence go as one with the names
+  pub names_olds : AllByRecursion (Moves_as_one (shift (name_cuts (avi_of o) e.names)) (Outside (name_cuts (avi_of o) e.names))) (old_indexes (avi_of o))
+  names_olds = let p = has_id (codes "idx1") in first_all (Moves_as_one (shift c1) (Outside c1)) (only p (top a)) (top_named p no_old olds_still).1
+
+  pub names_movis : AllByRecursion (Moves_as_one (shift (name_cuts (avi_of o) e.names)) (Outside (name_cuts (avi_of o) e.names))) (only is_movi (top (avi_of o)))
+  names_movis = (top_named is_movi no_movi movis_still).1
 
   module _ (small : HdrlSmall e.names (ends_file (renewed_avi (writes (move (goes (avi_of o) e)) o) (avi_of o))) (renewed_avi (writes (move (goes (avi_of o) e)) o) (avi_of o)).children) where
     streams_named : Carried (shift c1) (Outside c1) ws (stream_indexes a) (stream_indexes nb)
     streams_named =
         named_carried (stream_indexes a) (stream_indexes b) (stream_indexes nb) streams_still
         (moves_with e.names (name_cuts b e.names) 12 (12 + length (spell_all b.children)) (stream_indexes b) (stream_indexes nb) (streams_follow e.names (ends_file b) 12 12 b.children (chunks_again o bytes s (move (goes (avi_of o) e)) e) small))
+
+    pub names_streams : AllByRecursion (Moves_as_one (shift (name_cuts (avi_of o) e.names)) (Outside (name_cuts (avi_of o) e.names))) (stream_indexes (avi_of o))
+    names_streams = streams_named.1
 
     pub hdrls_listed : Listed c2 (hdrls nb) (hdrls (joined b e))
     hdrls_listed =

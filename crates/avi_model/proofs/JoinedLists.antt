@@ -1,16 +1,16 @@
 -- The lists that are opened in the new file end, after an edit of fields and names.
-use Rattle.std.proofs.Common.{◌≡◌, ℕ, ◌+◌, ◌^◌, ◌<◌, Bool, true, false, cond, List, [], ◌∷◌, ◌++◌, length, map, refl, sym, ap, subst, ◌∙◌, arith}
+use Rattle.std.proofs.Common.{◌≡◌, ℕ, ◌+◌, ◌^◌, ◌<◌, Bool, true, false, cond, List, [], ◌∷◌, length, map, refl, sym, ap, subst, ◌∙◌}
 use Rattle.std.specs.Prelude.{◌&&◌, codes}
 use Rattle.std.specs.List.{AllByRecursion}
 use Rattle.std.proofs.lemmas.List.{length-map}
 use Rattle.me_bytes.specs.Bytes.{IsBytes}
-use Rattle.container_model.specs.Chunk.{Chunk, ends, spell}
+use Rattle.container_model.specs.Chunk.{Chunk, spell}
 use Rattle.container_model.specs.Items.{is_nil}
 use Rattle.container_model.specs.Splice.{shift}
 use Rattle.container_model.specs.Stood.{Stood, bare, stood, only, first_of}
 use Rattle.container_model.proofs.Copied.{moved_to}
 use Rattle.container_model.proofs.Stood.{renew_at}
-use Rattle.carrier_model.specs.Info.{info, list_run, SetsInfo}
+use Rattle.carrier_model.specs.Info.{info, SetsInfo}
 use Rattle.opendml_index.specs.Index.{move}
 use Rattle.avi_model.specs.After.{Changes, children_after, goes, joined, list_cuts}
 use Rattle.avi_model.specs.Avi.{Avi, avi_of, hdrls, inner, strls}
@@ -66,7 +66,7 @@ module _ (o : List ℕ) (bytes : IsBytes o) (s : Supported o) (e : Changes) wher
           ap (λ (t : Bool). length (first_of (cond t (record { at = to; chunk = bare c } ∷ only is_hdrl (stood (to + length (spell c)) more)) (only is_hdrl (stood (to + length (spell c)) more))))) i ∙ g i
 
   -- the lists of fields are left alone
-  infos_named : (last : Bool) (cs : List Chunk) → AreChildren cs → AllByRecursion EndsList cs → AllByRecursion EndsList (children_named e.names last cs)
+  pub infos_named : (last : Bool) (cs : List Chunk) → AreChildren cs → AllByRecursion EndsList cs → AllByRecursion EndsList (children_named e.names last cs)
   infos_named last [] h k = tt
   infos_named last (c ∷ cs) h k = go (is_hdrl c) refl (λ i. infos_named last cs (behind_one c cs h i) k.1)
     where

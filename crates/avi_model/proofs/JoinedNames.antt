@@ -1,11 +1,11 @@
 -- The names of the streams after an edit of fields and names.
-use Rattle.std.proofs.Common.{◌≡◌, ℕ, zero, suc, ◌+◌, ◌^◌, ◌<◌, ◌≤◌, Bool, true, false, cond, eqb, List, [], ◌∷◌, ◌++◌, length, map, refl, sym, ap, subst, ◌∙◌, arith, inl, inr}
-use Rattle.std.specs.Prelude.{◌&&◌, ◌||◌, filter, codes}
-use Rattle.std.specs.List.{flat_map, AllByRecursion}
+use Rattle.std.proofs.Common.{◌≡◌, ℕ, zero, suc, ◌+◌, ◌<◌, Bool, true, false, cond, eqb, List, [], ◌∷◌, length, map, refl, sym, ap, ◌∙◌, arith, inl, inr}
+use Rattle.std.specs.Prelude.{◌||◌, filter}
+use Rattle.std.specs.List.{AllByRecursion}
 use Rattle.me_bytes.specs.Bytes.{IsBytes}
 use Rattle.container_model.specs.Chunk.{Chunk, Run, spell}
 use Rattle.container_model.specs.Splice.{shift}
-use Rattle.container_model.specs.Stood.{Stood, bare, stood, only}
+use Rattle.container_model.specs.Stood.{Stood}
 use Rattle.container_model.specs.Written.{Write}
 use Rattle.container_model.proofs.Copied.{moved_to}
 use Rattle.container_model.proofs.Stood.{renew_at}

@@ -1,5 +1,5 @@
 -- Clauses 2 and 3 with tables: the fields of the new file are the old ones updated, and what is kept is placed.
-use Rattle.std.proofs.Common.{◌≡◌, ℕ, ◌+◌, ◌-◌, ◌^◌, ◌<◌, ◌≤◌, Bool, true, false, cond, List, [], ◌∷◌, ◌++◌, length, take, drop, refl, sym, ap, ◌∙◌, arith, inr}
+use Rattle.std.proofs.Common.{◌≡◌, ℕ, ◌+◌, ◌^◌, ◌<◌, ◌≤◌, Bool, true, false, cond, List, [], ◌∷◌, ◌++◌, length, take, drop, refl, sym, ap, ◌∙◌, arith, inr}
 use Rattle.std.specs.Prelude.{codes}
 use Rattle.std.specs.Int.{w32, to_le_bytes}
 use Rattle.std.specs.List.{AllByRecursion}
@@ -19,7 +19,6 @@ use Rattle.avi_model.specs.Support.{ListEnds, infos, Supported}
 use Rattle.avi_model.specs.NewFile.{Items, new_children, edit_cuts, laid_file}
 use Rattle.carrier_model.specs.RiffForm.{with_size}
 use Rattle.avi_model.specs.Edited.{info_values}
-use Rattle.avi_model.specs.Kept.{kept, placed}
 use Rattle.avi_model.proofs.Read.{renewed_avi}
 use Rattle.avi_model.proofs.Forms.{file_read}
 use Rattle.avi_model.proofs.Cuts.{size_same}

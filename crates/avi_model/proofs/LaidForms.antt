@@ -1,9 +1,9 @@
 -- The forms of the new file: they are read again, each to its end, and its essence is the old one where it goes.
-use Rattle.std.proofs.Common.{◌≡◌, ℕ, ◌+◌, ◌-◌, ◌≤◌, true, List, [], ◌∷◌, ◌++◌, length, map, refl, sym, ap, subst, ◌∙◌, arith, inl, inr}
+use Rattle.std.proofs.Common.{◌≡◌, ℕ, ◌+◌, ◌≤◌, true, List, [], ◌∷◌, ◌++◌, length, map, refl, sym, ap, subst, ◌∙◌, arith, inl, inr}
 use Rattle.std.specs.Prelude.{codes}
 use Rattle.std.specs.List.{flat_map, AllByRecursion}
 use Rattle.std.proofs.lemmas.List.{length-append}
-use Rattle.container_model.specs.Chunk.{Chunk, Run, ends, spell, spell_all, chunks}
+use Rattle.container_model.specs.Chunk.{Chunk, Run, ends, spell, spell_all}
 use Rattle.container_model.specs.Stood.{Stood, bare, stood, only}
 use Rattle.container_model.specs.Written.{Write}
 use Rattle.container_model.proofs.Codec.{IsBytes}

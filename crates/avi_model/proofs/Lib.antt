@@ -62,7 +62,7 @@ pub mod OneSplice
 pub mod Turns
 pub mod Ordered
 mod Rising
-mod Relocated
+pub mod Relocated
 pub mod Respelled
 pub mod Placed
 pub mod Streams
@@ -87,4 +87,16 @@ pub mod JoinedEdited
 pub mod JoinedGrows
 pub mod JoinedIs
 pub mod JoinedLists
+pub mod JoinedNodes
+pub mod JoinedSpliced
+pub mod JoinedKept
+pub mod Composed
+pub mod NamesHdrl
+pub mod JoinedOne
+pub mod Lays
+pub mod NamesLay
+pub mod UnitsSplit
+pub mod JoinedInPlace
+pub mod JoinedFew
+pub mod AviKind
 pub mod JoinedNames

@@ -1,7 +1,7 @@
 -- Lists into which numbers are written are lists again, and so are those in the first hdrl.
 use Rattle.std.proofs.Common.{◌≡◌, ℕ, ◌+◌, true, false, List, [], ◌∷◌, ◌++◌, length, drop, sym, ap, subst, ◌∙◌, arith}
 use Rattle.container_model.specs.Chunk.{Chunk, Run, Pads, spell, spell_all}
-use Rattle.container_model.specs.Written.{Write, written}
+use Rattle.container_model.specs.Written.{Write}
 use Rattle.container_model.proofs.Written.{renew, renewed}
 use Rattle.carrier_model.specs.Info.{list_run}
 use Rattle.avi_model.specs.Named.{Names, is_hdrl, is_strl}

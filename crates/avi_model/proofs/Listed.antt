@@ -14,7 +14,7 @@ use Rattle.container_model.proofs.Stood.{carried_to, only_all}
 use Rattle.carrier_model.specs.Info.{is_type, SetsInfo}
 use Rattle.avi_model.specs.Avi.{Avi, avi_of, inner, spell_avi, kids, top, hdrls, strls, stream_indexes, is_movi, old_indexes, behind}
 use Rattle.opendml_index.specs.Index.{move, blank}
-use Rattle.avi_model.specs.Index.{writes, renumbered, olds}
+use Rattle.avi_model.specs.Index.{writes, renumbered}
 use Rattle.avi_model.specs.Support.{ListEnds, infos, Supported}
 use Rattle.avi_model.specs.NewFile.{Items, new_children, laid, edit_cuts, laid_file}
 use Rattle.avi_model.proofs.Read.{renewed_avi, others_place}

@@ -1,5 +1,5 @@
 -- Lists into which numbers are written end where they ended.
-use Rattle.std.proofs.Common.{◌≡◌, ℕ, ◌+◌, ◌-◌, true, List, [], ◌∷◌, ◌++◌, length, drop, refl, ap, ◌∙◌, arith}
+use Rattle.std.proofs.Common.{◌≡◌, ℕ, ◌+◌, true, List, [], ◌∷◌, ◌++◌, length, drop, refl, ap, ◌∙◌, arith}
 use Rattle.std.specs.List.{AllByRecursion}
 use Rattle.std.proofs.lemmas.List.{length-append}
 use Rattle.container_model.specs.Chunk.{Run, spell, chunks}
@@ -14,7 +14,6 @@ use Rattle.container_model.proofs.Stood.{carried_to}
 use Rattle.avi_model.specs.Avi.{Avi, form_of, spell_avi}
 use Rattle.avi_model.specs.Support.{begins, ListEnds}
 use Rattle.avi_model.proofs.Walk.{IsRiffHead, Open}
-use Rattle.avi_model.proofs.Sound.{ended}
 
 pub all_both : {X : Type 0} (P : X → Type 0) (a b : List X) → AllByRecursion P a → AllByRecursion P b → AllByRecursion P (a ++ b)
 all_both P [] b h g = g

@@ -1,18 +1,17 @@
 -- The first form with other names, with numbers written into its tables and without: an edit of the lists of fields doesn't tell them
 -- apart, so it replaces the same spans of both.
-use Rattle.std.proofs.Common.{◌≡◌, ℕ, ◌+◌, ◌%◌, Bool, true, false, cond, List, [], ◌∷◌, ◌++◌, length, map, replicate, refl, sym, ap, subst, ◌∙◌, arith, inl, inr}
+use Rattle.std.proofs.Common.{◌≡◌, ℕ, ◌+◌, Bool, true, false, cond, List, [], ◌∷◌, length, map, replicate, refl, sym, ap, subst, ◌∙◌, arith, inl, inr}
 use Rattle.std.specs.Prelude.{◌⊎◌, ◌&&◌, codes}
 use Rattle.std.proofs.lemmas.List.{length-append}
 use Rattle.container_model.specs.Chunk.{Chunk, Form, pad_len, spell, spell_all}
 use Rattle.container_model.specs.Items.{is_nil}
-use Rattle.container_model.specs.Stood.{Stood, bare}
 use Rattle.container_model.specs.Units.{gap, kept, padded, lacks_pad}
 use Rattle.container_model.specs.Written.{Write}
 use Rattle.container_model.proofs.Written.{renew, renewed, renewed_length}
 use Rattle.carrier_model.specs.Cells.{meets}
 use Rattle.carrier_model.specs.Info.{info, is_padding, is_type}
 use Rattle.carrier_model.proofs.Info.{padding_no_list}
-use Rattle.avi_model.specs.Named.{Names, cell_by, cell_of, children_named, hdrl_named, is_hdrl, respelled}
+use Rattle.avi_model.specs.Named.{Names, cell_by, cell_of, children_named, hdrl_named, is_hdrl}
 use Rattle.avi_model.specs.NewFile.{home as behind_hdrl}
 use Rattle.avi_model.proofs.Alike.{Alike, Same}
 use Rattle.avi_model.proofs.Children.{FirstOpens, kids_of}

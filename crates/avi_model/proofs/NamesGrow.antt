@@ -1,16 +1,16 @@
 -- A list with another name is no shorter than it was, unless its last slot ends the file; so no byte of the essence moves towards the
 -- start by an edit of names.
-use Rattle.std.proofs.Common.{◌≡◌, ℕ, suc, ◌+◌, ◌-◌, ◌%◌, ◌^◌, ◌<◌, ◌≤◌, Bool, true, false, cond, eqb, List, [], ◌∷◌, ◌++◌, length, map, take, replicate, refl, sym, ap, subst, ◌∙◌, arith, inl, inr}
+use Rattle.std.proofs.Common.{◌≡◌, ℕ, ◌+◌, ◌%◌, ◌^◌, ◌<◌, ◌≤◌, Bool, true, false, cond, eqb, List, [], ◌∷◌, ◌++◌, length, map, take, refl, sym, ap, subst, ◌∙◌, arith, inl, inr}
 use Rattle.std.specs.Prelude.{◌⊎◌, ◌&&◌, codes}
 use Rattle.std.specs.List.{flat_map, AllByRecursion}
-use Rattle.std.proofs.lemmas.Bool.{eqb-true, eqb-false}
+use Rattle.std.proofs.lemmas.Bool.{eqb-false}
 use Rattle.std.proofs.lemmas.List.{length-append, length-replicate}
-use Rattle.container_model.specs.Chunk.{Chunk, Form, PadStands, Pads, header_bytes, pad_len, riff, spell, spell_all}
+use Rattle.container_model.specs.Chunk.{Chunk, Form, PadStands, Pads, header_bytes, riff, spell, spell_all}
 use Rattle.container_model.specs.Items.{is_nil}
-use Rattle.container_model.specs.Splice.{Cut, gained, lost, shift}
+use Rattle.container_model.specs.Splice.{Cut, gained, lost}
 use Rattle.container_model.specs.Stood.{Stood, bare, stood, only}
 use Rattle.container_model.specs.Units.{Piece, Fill, copied, replaced, lay, old_bytes, padded, shut, unit_bytes, units}
-use Rattle.container_model.proofs.Goes.{Block, before_later}
+use Rattle.container_model.proofs.Goes.{before_later}
 use Rattle.container_model.proofs.Copied.{before_none}
 use Rattle.container_model.proofs.Places.{old_length}
 use Rattle.container_model.proofs.Plain.{IsPlain}
@@ -19,10 +19,10 @@ use Rattle.carrier_model.specs.Cells.{counted}
 use Rattle.carrier_model.specs.Info.{is_type, list_run, riff_fill}
 use Rattle.carrier_model.specs.Names.{name_cells}
 use Rattle.avi_model.specs.Avi.{is_movi}
-use Rattle.avi_model.specs.Named.{Names, cell_of, children_named, ends_list, hdrl_from, hdrl_cuts, hdrl_named, is_hdrl, is_named, is_strl, kid_named, kids_named, new_names, respelled, strl_named, strl_pieces, names_after}
+use Rattle.avi_model.specs.Named.{Names, cell_of, hdrl_from, hdrl_cuts, hdrl_named, is_hdrl, is_named, is_strl, kid_named, kids_named, new_names, respelled, strl_named, names_after}
 use Rattle.avi_model.proofs.Among.{Among, among_only, stood_inside}
 use Rattle.avi_model.proofs.Children.{AreChildren, behind_one, children_block, cuts_from, kids_of}
-use Rattle.avi_model.proofs.Grows.{Grows, riff_grows}
+use Rattle.avi_model.proofs.Grows.{riff_grows}
 use Rattle.avi_model.proofs.Respelled.{IsList, laid_chunks, list_length, made_names, respelled_body, respelled_form, respelled_id}
 use Rattle.avi_model.proofs.Streams.{AreKids, IsKid}
 use Rattle.avi_model.proofs.StreamsGo.{hdrl_block, old_is}

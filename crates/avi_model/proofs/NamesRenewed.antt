@@ -1,13 +1,13 @@
 -- What is written into the tables of a file changes no span of an edit of names: the same cells, with other bodies where chunks are kept.
-use Rattle.std.proofs.Common.{◌≡◌, ℕ, zero, suc, ◌+◌, Bool, true, false, cond, List, [], ◌∷◌, ◌++◌, length, map, drop, refl, sym, ap, ◌∙◌, arith, inl, inr}
-use Rattle.std.specs.Prelude.{◌⊎◌, ◌&&◌, ◌||◌}
+use Rattle.std.proofs.Common.{◌≡◌, ℕ, zero, suc, ◌+◌, Bool, true, false, cond, List, [], ◌∷◌, ◌++◌, length, map, refl, sym, ap, ◌∙◌, arith}
+use Rattle.std.specs.Prelude.{◌||◌}
 use Rattle.std.specs.List.{flat_map, list_any}
 use Rattle.std.proofs.lemmas.List.{length-append}
 use Rattle.container_model.specs.Chunk.{Chunk, spell, spell_all}
 use Rattle.container_model.specs.Written.{Write}
 use Rattle.container_model.specs.Units.{Cell, kept, gap, edited, live}
 use Rattle.container_model.proofs.Written.{renew, renewed}
-use Rattle.carrier_model.specs.Cells.{Change, leave, become, change_at, changed_cell, counted, count_all, settle, settle_cells}
+use Rattle.carrier_model.specs.Cells.{leave, changed_cell, count_all, settle, settle_cells}
 use Rattle.carrier_model.specs.Info.{is_padding}
 use Rattle.carrier_model.specs.Names.{is_name, is_head, some_head, put_name, nth_name, put_names, name_cells}
 use Rattle.carrier_model.proofs.Renewed.{renewed_cells}

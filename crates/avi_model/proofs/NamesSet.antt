@@ -2,7 +2,7 @@
 use Rattle.std.proofs.Common.{◌≡◌, ℕ, ◌+◌, ◌^◌, ◌<◌, ◌≤◌, Bool, true, false, cond, List, [], ◌∷◌, ◌++◌, length, map, drop, refl, sym, ap, subst, ◌∙◌, arith, inl, inr}
 use Rattle.std.specs.Prelude.{◌&&◌, filter, not, codes}
 use Rattle.std.specs.List.{flat_map}
-use Rattle.std.proofs.lemmas.List.{length-append, append-nil}
+use Rattle.std.proofs.lemmas.List.{append-nil}
 use Rattle.me_bytes.specs.Bytes.{IsBytes}
 use Rattle.container_model.specs.Chunk.{Chunk, Run, spell, spell_all}
 use Rattle.container_model.specs.Items.{is_nil}
@@ -27,7 +27,7 @@ use Rattle.avi_model.proofs.Lies.{Whole, list_joined}
 use Rattle.avi_model.proofs.NamesSpliced.{children_spliced}
 use Rattle.avi_model.proofs.Respelled.{IsList, list_plain, list_type, list_length}
 use Rattle.avi_model.proofs.Sound.{ended}
-use Rattle.avi_model.proofs.Streams.{AreKids, after, kids_names, hdrl_run, head_placed, spell_long}
+use Rattle.avi_model.proofs.Streams.{AreKids, after, kids_names, hdrl_run, head_placed}
 use Rattle.avi_model.proofs.Types.{type_is}
 
 -- ---- what is opened in a supported file

@@ -65,7 +65,7 @@ pads at old new = go (bytes_eq old new) refl
     go true e = told at at old old old new [] refl refl (sym (same_true old new e)) (copies at old)
     go false e = one_cut (record { at = at; len = length old; bytes = new }) old refl
 
-from_pieces : (fill : Fill) (at : ℕ) (ps : List Piece) (more : List Cut) → From (at + length (flat_map old_bytes ps)) more → From at (cuts fill at ps ++ more)
+pub from_pieces : (fill : Fill) (at : ℕ) (ps : List Piece) (more : List Cut) → From (at + length (flat_map old_bytes ps)) more → From at (cuts fill at ps ++ more)
 from_pieces fill at ps more h = go (cuts fill at ps) (cuts_from fill at ps at (omega arith))
   where
     go : (cs : List Cut) → From at cs → From at (cs ++ more)
@@ -87,11 +87,11 @@ module _ (c : Chunk) (cs : List Chunk) (plain : IsPlain c) (is : IsList c) where
   body_is : c.body ≡ take 4 c.body ++ (spell_all (list_run c).chunks ++ (list_run c).left)
   body_is = sym (take-append-drop 4 c.body) ∙ ap (λ (x : List ℕ). take 4 c.body ++ x) (sym is.spelled)
 
-  old_is : spell c ≡ c.id ++ (to_le_bytes w32 (length c.body) ++ (take 4 c.body ++ (spell_all (list_run c).chunks ++ ((list_run c).left ++ c.pad))))
-  old_is = head_is c plain ∙ parts_of c.id (to_le_bytes w32 (length c.body)) (take 4 c.body) (spell_all (list_run c).chunks) (list_run c).left c.pad c.body body_is
+  pub list_is : spell c ≡ c.id ++ (to_le_bytes w32 (length c.body) ++ (take 4 c.body ++ (spell_all (list_run c).chunks ++ ((list_run c).left ++ c.pad))))
+  list_is = head_is c plain ∙ parts_of c.id (to_le_bytes w32 (length c.body)) (take 4 c.body) (spell_all (list_run c).chunks) (list_run c).left c.pad c.body body_is
 
-  new_is : spell (list_with c cs) ≡ c.id ++ (to_le_bytes w32 (length (list_with c cs).body) ++ (take 4 c.body ++ (spell_all cs ++ ((list_run c).left ++ (list_with c cs).pad))))
-  new_is =
+  pub list_then : spell (list_with c cs) ≡ c.id ++ (to_le_bytes w32 (length (list_with c cs).body) ++ (take 4 c.body ++ (spell_all cs ++ ((list_run c).left ++ (list_with c cs).pad))))
+  list_then =
       let b = take 4 c.body ++ (spell_all cs ++ (list_run c).left) in
       let n = list_with c cs in
       head_is n (record { form_is = respelled_form c b ∙ plain.form_is; id_len = ap length (respelled_id c b) ∙ plain.id_len })
@@ -118,7 +118,7 @@ module _ (c : Chunk) (cs : List Chunk) (plain : IsPlain c) (is : IsList c) where
       (told (at + 8) (at + 4 + length field) (word ++ (ks ++ (left ++ c.pad))) (word ++ (spell_all cs ++ (left ++ n.pad))) (word ++ (ks ++ (left ++ c.pad))) (word ++ (spell_all cs ++ (left ++ n.pad))) (k ++ pad) (omega arith) refl refl p3) in
       let p1 = joins at c.id c.id (field ++ (word ++ (ks ++ (left ++ c.pad)))) (size.bytes ++ (word ++ (spell_all cs ++ (left ++ n.pad)))) [] (size ∷ (k ++ pad)) (copies at c.id)
       (told (at + 4) (at + length c.id) (field ++ (word ++ (ks ++ (left ++ c.pad)))) (size.bytes ++ (word ++ (spell_all cs ++ (left ++ n.pad)))) (field ++ (word ++ (ks ++ (left ++ c.pad)))) (size.bytes ++ (word ++ (spell_all cs ++ (left ++ n.pad)))) (size ∷ (k ++ pad)) (omega (arith, plain.id_len)) refl refl p2) in
-      told at at (c.id ++ (field ++ (word ++ (ks ++ (left ++ c.pad))))) (c.id ++ (size.bytes ++ (word ++ (spell_all cs ++ (left ++ n.pad))))) (spell c) (spell n) (size ∷ (k ++ pad)) refl old_is new_is p1
+      told at at (c.id ++ (field ++ (word ++ (ks ++ (left ++ c.pad))))) (c.id ++ (size.bytes ++ (word ++ (spell_all cs ++ (left ++ n.pad))))) (spell c) (spell n) (size ∷ (k ++ pad)) refl list_is list_then p1
 
 -- the list of a stream
 strl_splices : (ends_too : Bool) (vs : List (List ℕ)) (c : Chunk) (plain : IsPlain c) (is : IsList c) (at : ℕ) → Splices at (spell c) (spell (strl_named ends_too (made_names vs) c))
@@ -152,7 +152,12 @@ module _ (e : Names) where
       subst (Splices at (spell_all (c ∷ cs)) (spell_all (one ∷ more))) (sym (flat_map-append (strl_cuts e) (cond (is_strl c && is_named e n) (record { at = at; ends = ends_too && is_nil cs; stream = n; chunk = c } ∷ []) []) (sites_from e ends_too (counted is_strl n c) (at + length (spell c)) cs)))
       (joins at (spell c) (spell one) (spell_all cs) (spell_all more) here there (kid_splices (ends_too && is_nil cs) n at c h.0) (kids_splices ends_too (counted is_strl n c) (at + length (spell c)) cs h.1))
 
-  children_splices : (ends_too : Bool) (at : ℕ) (cs : List Chunk) → AreChildren cs → Splices at (spell_all cs) (spell_all (children_named e ends_too cs)) (cuts_among e ends_too at cs)
+  pub hdrl_splices : (ends_too : Bool) (at : ℕ) (c : Chunk) → IsPlain c → IsList c → AreKids (list_run c).chunks → Splices at (spell c) (spell (hdrl_named e ends_too c)) (hdrl_cuts e (record { at = at; ends = ends_too; stream = 0; chunk = c }))
+  hdrl_splices ends_too at c plain is kids =
+      let site : Site = record { at = at; ends = ends_too; stream = 0; chunk = c } in
+      list_splices c (kids_of e ends_too c) plain is at (flat_map (strl_cuts e) (Rattle.avi_model.specs.Named.sites_in e site)) (kids_splices (ends_too && ends_list c) 0 (at + 12) (list_run c).chunks kids)
+
+  pub children_splices : (ends_too : Bool) (at : ℕ) (cs : List Chunk) → AreChildren cs → Splices at (spell_all cs) (spell_all (children_named e ends_too cs)) (cuts_among e ends_too at cs)
   children_splices ends_too at [] h = copies at []
   children_splices ends_too at (c ∷ cs) h = go (is_hdrl c) refl (λ i. children_splices ends_too (at + length (spell c)) cs (behind_one c cs h i))
     where
@@ -162,8 +167,7 @@ module _ (e : Names) where
           let o = h.1.0 i in
           let t = ends_too && is_nil cs in
           let site : Site = record { at = at; ends = t; stream = 0; chunk = c } in
-          joins at (spell c) (spell (hdrl_named e t c)) (spell_all cs) (spell_all cs) (hdrl_cuts e site) []
-          (list_splices c (kids_of e t c) h.0.0 o.0 at (flat_map (strl_cuts e) (Rattle.avi_model.specs.Named.sites_in e site)) (kids_splices (t && ends_list c) 0 (at + 12) (list_run c).chunks o.1)) (copies (at + length (spell c)) (spell_all cs))
+          joins at (spell c) (spell (hdrl_named e t c)) (spell_all cs) (spell_all cs) (hdrl_cuts e site) [] (hdrl_splices t at c h.0.0 o.0 o.1) (copies (at + length (spell c)) (spell_all cs))
       go false i g = joins at (spell c) (spell c) (spell_all cs) (spell_all (children_named e ends_too cs)) [] (cuts_among e ends_too (at + length (spell c)) cs) (copies at (spell c)) (g i)
 
   -- The chunks of the form are spelled as the old ones with the spans replaced.

@@ -1,5 +1,5 @@
 -- What is written into the tables of a file changes no span of an edit of names, and not how long what is laid is.
-use Rattle.std.proofs.Common.{◌≡◌, ℕ, suc, ◌+◌, ◌-◌, ◌%◌, ◌≤◌, Bool, true, false, cond, eqb, List, [], ◌∷◌, ◌++◌, length, map, take, replicate, refl, sym, ap, ◌∙◌, arith}
+use Rattle.std.proofs.Common.{◌≡◌, ℕ, suc, ◌+◌, ◌%◌, ◌≤◌, Bool, true, false, cond, eqb, List, [], ◌∷◌, ◌++◌, length, map, take, replicate, refl, sym, ap, ◌∙◌, arith}
 use Rattle.std.specs.Prelude.{◌&&◌}
 use Rattle.std.specs.Int.{w32, to_le_bytes}
 use Rattle.std.specs.List.{flat_map}
@@ -9,7 +9,7 @@ use Rattle.container_model.specs.Chunk.{Chunk, Run, ends, header_bytes, pad_len,
 use Rattle.container_model.specs.Items.{is_nil}
 use Rattle.container_model.specs.Splice.{Cut}
 use Rattle.container_model.specs.Units.{padded, shut, units, lay, cuts, Fill}
-use Rattle.container_model.specs.Written.{Write, written}
+use Rattle.container_model.specs.Written.{Write}
 use Rattle.container_model.proofs.Deep.{alike_len}
 use Rattle.container_model.proofs.Written.{renew, renewed, renew_alike, length-written, head_length}
 use Rattle.carrier_model.specs.Cells.{counted}

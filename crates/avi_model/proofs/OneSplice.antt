@@ -45,13 +45,13 @@ use Rattle.avi_model.proofs.Tables.{olds_carried}
 -- ---- each slot has bytes, or gets some
 
 -- a cell that is edited had a chunk, or has one now
-abbrev AllReal : List Cell → Type 0
+abbrev pub AllReal : List Cell → Type 0
 AllReal [] = Unit {0}
 AllReal (kept c ∷ xs) = AllReal xs
 AllReal (gap c ∷ xs) = AllReal xs
 AllReal (edited old now ∷ xs) = (0 < length old + length now) × AllReal xs
 
-abbrev SlotReal : Slot → Type 0
+abbrev pub SlotReal : Slot → Type 0
 SlotReal shut = Unit {0}
 SlotReal (begun lead slot now) = 0 < length lead + (length slot + length now)
 
@@ -74,7 +74,7 @@ next_real : (fill : Fill) (at : ℕ) (r : Bool) (c : Chunk) (more : Slot → Lis
 next_real fill at true c more g = g (begun (c ∷ []) [] []) at (omega arith)
 next_real fill at false c more g = g shut (at + length (spell c)) tt
 
-units_real : (fill : Fill) (at : ℕ) (t : Slot) (xs : List Cell) → SlotReal t → AllReal xs → AllByRecursion Real (cuts fill at (units t xs))
+pub units_real : (fill : Fill) (at : ℕ) (t : Slot) (xs : List Cell) → SlotReal t → AllReal xs → AllByRecursion Real (cuts fill at (units t xs))
 unfolding units
 units_real fill at shut [] h r = tt
 units_real fill at (begun lead slot now) [] h r = closed_real fill at true (begun lead slot now) [] h (λ q. tt)
@@ -88,7 +88,7 @@ units_real fill at (begun lead slot now) (edited old new ∷ xs) h r =
 
 -- ---- the cells of an edit
 
-real_cells : (cs : List Chunk) → AllReal (map cell_of cs)
+pub real_cells : (cs : List Chunk) → AllReal (map cell_of cs)
 real_cells [] = tt
 real_cells (c ∷ cs) = go (is_padding c) (real_cells cs)
   where
@@ -101,13 +101,13 @@ real_changed leave c xs h = h
 real_changed (become cs) c xs h = (omega arith, h)
 
 -- no cell is edited yet
-abbrev Fresh : List Cell → Type 0
+abbrev pub Fresh : List Cell → Type 0
 Fresh [] = Unit {0}
 Fresh (kept c ∷ xs) = Fresh xs
 Fresh (gap c ∷ xs) = Fresh xs
 Fresh (edited old now ∷ xs) = ⊥
 
-fresh_cells : (cs : List Chunk) → Fresh (map cell_of cs)
+pub fresh_cells : (cs : List Chunk) → Fresh (map cell_of cs)
 fresh_cells [] = tt
 fresh_cells (c ∷ cs) = go (is_padding c) (fresh_cells cs)
   where
@@ -115,11 +115,11 @@ fresh_cells (c ∷ cs) = go (is_padding c) (fresh_cells cs)
     go true h = h
     go false h = h
 
-real_settled : (f : ℕ → Chunk → Change) (n : ℕ) (xs : List Cell) → Fresh xs → AllReal (settle_cells info.is f n xs)
-real_settled f n [] h = tt
-real_settled f n (kept c ∷ xs) h = real_changed (Rattle.carrier_model.specs.Cells.change_at info.is f n c) c (settle_cells info.is f (counted info.is n c) xs) (real_settled f (counted info.is n c) xs h)
-real_settled f n (gap c ∷ xs) h = real_settled f n xs h
-real_settled f n (edited old now ∷ xs) h = absurd h
+pub real_settled : (p : Chunk → Bool) (f : ℕ → Chunk → Change) (n : ℕ) (xs : List Cell) → Fresh xs → AllReal (settle_cells p f n xs)
+real_settled p f n [] h = tt
+real_settled p f n (kept c ∷ xs) h = real_changed (Rattle.carrier_model.specs.Cells.change_at p f n c) c (settle_cells p f (counted p n c) xs) (real_settled p f (counted p n c) xs h)
+real_settled p f n (gap c ∷ xs) h = real_settled p f n xs h
+real_settled p f n (edited old now ∷ xs) h = absurd h
 
 real_beside : (s : Side) (c d : Chunk) (xs : List Cell) → AllReal xs → AllReal (beside s (new_cell c) (kept d) ++ xs)
 real_beside behind c d xs h = (omega arith, h)
@@ -139,7 +139,7 @@ real_inserted s t c (gap d ∷ xs) f h = go (only_gaps xs) (real_inserted s t c 
     go false again = again
 real_inserted s t c (edited old now ∷ xs) f h = absurd f
 
-real_new : (a : Avi) (e : Items) → AllReal (new_cells a e)
+pub real_new : (a : Avi) (e : Items) → AllReal (new_cells a e)
 real_new a e = go (has_carrier info cs)
   where
     cs : List Chunk
@@ -151,9 +151,9 @@ real_new a e = go (has_carrier info cs)
 
     go : (b : Bool) → AllReal (acted_cells (lists_act_by info info_items home e cs b) (map cell_of a.children))
     go false = fresh (sets_some e)
-    go true = real_settled (edit_nth info info_items (home_of (all_items info info_items cs)) e) 0 (map cell_of a.children) (fresh_cells a.children)
+    go true = real_settled info.is (edit_nth info info_items (home_of (all_items info info_items cs)) e) 0 (map cell_of a.children) (fresh_cells a.children)
 
-pad_real : (at : ℕ) (old new : List ℕ) → AllByRecursion Real (pad_cut at old new)
+pub pad_real : (at : ℕ) (old new : List ℕ) → AllByRecursion Real (pad_cut at old new)
 pad_real at old new = go (bytes_eq old new) refl old new refl refl
   where
     go : (t : Bool) → bytes_eq old new ≡ t → (x y : List ℕ) → old ≡ x → new ≡ y → AllByRecursion Real (cond t [] (record { at = at; len = length old; bytes = new } ∷ []))
@@ -162,7 +162,7 @@ pad_real at old new = go (bytes_eq old new) refl old new refl refl
     go false e (b ∷ x) y i j = (omega (arith, ap length i), tt)
     go false e [] (b ∷ y) i j = (omega (arith, ap length j), tt)
 
-both_real : (a b : List Cut) → AllByRecursion Real a → AllByRecursion Real b → AllByRecursion Real (a ++ b)
+pub both_real : (a b : List Cut) → AllByRecursion Real a → AllByRecursion Real b → AllByRecursion Real (a ++ b)
 both_real [] b h g = g
 both_real (c ∷ a) b h g = (h.0, both_real a b h.1 g)
 
@@ -174,7 +174,7 @@ cuts_real a e =
 -- ---- the form's size
 
 -- it stands before all other spans
-sized : (n : ℕ) (b : List ℕ) (ds : List Cut) → 8 ≤ length b → From 8 ds → with_size riff n (splice b ds) ≡ splice b (size_cut n ∷ ds)
+pub sized : (n : ℕ) (b : List ℕ) (ds : List Cut) → 8 ≤ length b → From 8 ds → with_size riff n (splice b ds) ≡ splice b (size_cut n ∷ ds)
 sized n b ds long from =
     let x = take 4 b in
     let y = take 4 (drop 4 b) in
@@ -193,7 +193,7 @@ sized n b ds long from =
 
 -- ---- all spans begin behind the form's header
 
-from_first : (ds : List Cut) (end : ℕ) → From 12 ds → Ascend 0 ds end → AllByRecursion (λ c. 8 ≤ c.at) ds
+pub from_first : (ds : List Cut) (end : ℕ) → From 12 ds → Ascend 0 ds end → AllByRecursion (λ c. 8 ≤ c.at) ds
 from_first [] end f a = tt
 from_first (d ∷ ds) end f a = (omega (arith, f), weaken ds (all_low (end_of d) end ds a.1))
   where
@@ -201,11 +201,11 @@ from_first (d ∷ ds) end f a = (omega (arith, f), weaken ds (all_low (end_of d)
     weaken [] h = tt
     weaken (c ∷ cs) h = (omega (arith, h.0, f), weaken cs h.1)
 
-first_of_low : (ds : List Cut) → AllByRecursion (λ c. 8 ≤ c.at) ds → From 8 ds
+pub first_of_low : (ds : List Cut) → AllByRecursion (λ c. 8 ≤ c.at) ds → From 8 ds
 first_of_low [] h = tt
 first_of_low (d ∷ ds) h = h.0
 
-raise : (ds : List Cut) (end : ℕ) → AllByRecursion (λ c. 8 ≤ c.at) ds → 8 ≤ end → Ascend 0 ds end → Ascend 8 ds end
+pub raise : (ds : List Cut) (end : ℕ) → AllByRecursion (λ c. 8 ≤ c.at) ds → 8 ≤ end → Ascend 0 ds end → Ascend 8 ds end
 raise [] end h l a = l
 raise (d ∷ ds) end h l a = (h.0, a.1)
 

@@ -30,7 +30,7 @@ none_before : (more : List Cut) (p : ℕ) → Before p more → (gained more p �
 none_before [] p h = (refl, refl)
 none_before (c ∷ more) p h = let r = behind_lost c more p h.0 in (r.0, r.1)
 
-gained_before : (cs more : List Cut) (p : ℕ) → Before p more → (gained (cs ++ more) p ≡ gained cs p) × (lost (cs ++ more) p ≡ lost cs p)
+pub gained_before : (cs more : List Cut) (p : ℕ) → Before p more → (gained (cs ++ more) p ≡ gained cs p) × (lost (cs ++ more) p ≡ lost cs p)
 gained_before [] more p h = none_before more p h
 gained_before (c ∷ cs) more p h = go (cases_lt p (end_of c)) (gained_before cs more p h)
   where

@@ -19,3 +19,4 @@ pub mod KeptAfter
 pub mod Kind
 pub mod Splices
 pub mod Joined
+pub mod JoinedSplices

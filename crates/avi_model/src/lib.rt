@@ -3,11 +3,9 @@
 //! 1.0) and of AVI, the indexes those of OpenDML (AVI File Format Extensions 1.02). It knows no device and no code.
 #![tactic(auto)]
 
-ghost use Rattle.std.specs.Prelude.{◌≡◌, ◌<◌, ◌≤◌, ◌+◌, ◌*◌, ◌-◌, ◌^◌, ◌⊎◌, ◌++◌, ℕ, Bool, List, [], length, map, take, drop, None};
+ghost use Rattle.std.specs.Prelude.{◌≡◌, ◌<◌, ◌≤◌, ◌+◌, ◌*◌, ◌-◌, ◌^◌, ◌⊎◌, ◌++◌, ℕ, Bool, true, List, [], length, map, take, drop, None};
 ghost use Rattle.me_bytes.specs.Bytes.{IsBytes};
-ghost use Rattle.part_tree.specs.Names.{IsFieldName};
 ghost use Rattle.part_tree.specs.declared.field.EditItem.{EditItem};
-ghost use Rattle.part_tree.specs.declared.field.FieldName.{FieldName};
 ghost use Rattle.part_tree.specs.declared.table.IndexHead.{IndexHead};
 ghost use Rattle.part_tree.specs.declared.table.TableForm.TheVariants.{Super, Standard};
 ghost use Rattle.part_tree.specs.Moves.{Move};
@@ -31,10 +29,11 @@ ghost use Rattle.avi_model.specs.Why.{why, why_named};
 ghost use Rattle.avi_model.specs.Named.{Names, named};
 ghost use Rattle.avi_model.specs.NamesSet.{NamesSet};
 ghost use Rattle.avi_model.specs.NewFile.{moves};
+ghost use Rattle.avi_model.specs.After.{all_changes, is_idle};
+ghost use Rattle.avi_model.specs.JoinedSplices.{IsJoinedSplice};
 ghost use Rattle.avi_model.specs.Splices.{IsOneSplice};
-ghost use Rattle.field_model.specs.Kind.{IsAccepted, IsKind, NamesFields, SameEdit};
-ghost use Rattle.field_model.specs.Lawful.{IsLawful};
-ghost use Rattle.field_model.specs.Update.{effective, update};
+ghost use Rattle.field_model.specs.Kind.{IsKind};
+ghost use Rattle.field_model.specs.Update.{effective};
 ghost use Rattle.avi_model.specs.Edited.{changes, fields, new_file};
 ghost use Rattle.avi_model.specs.Joined.{old_form};
 ghost use Rattle.avi_model.specs.Kind.{avi_kind, listed_kind};
@@ -51,6 +50,12 @@ pub fn listed_files_are_a_kind()
     ensures { IsKind listed_kind }
 {}
 
+/// AVI files have the laws of a kind of files, for both bases of `idx1`, OpenDML indexes in any number of forms, and streams with
+/// names: an accepted edit that isn't too large makes the old file edited, in place where it has room.
+pub fn avi_files_are_a_kind()
+    ensures { IsKind avi_kind }
+{}
+
 /// An AVI file is supported exactly where no test of the reading order holds.
 pub fn refusals_are_exact()
     ensures { (b : List ℕ) → (why b ≡ None → Supported b) × (Supported b → why b ≡ None) }
@@ -61,41 +66,25 @@ pub fn named_refusals_are_exact()
     ensures { (b : List ℕ) → (why_named b ≡ None → SupportedNames b) × (SupportedNames b → why_named b ≡ None) }
 {}
 
-/// Of AVI files whose streams have names: an edit without effect makes the same file, and is never too large; the new file of another
-/// edit that isn't too large has at most 2^63-1 bytes; the items that have an effect come to the same as all items; and no field of
-/// `bext` and no key is there.
-pub fn named_edits_come_to_the_same()
-    ensures idle { (o : List ℕ) (e : List EditItem) → effective (avi_kind.fields o) e ≡ []
-        → (avi_kind.new_file o e ≡ o) × (avi_kind.too_large o e ≡ None) }
-    ensures no_larger { (o : List ℕ) (e : List EditItem) → avi_kind.too_large o e ≡ None
-        → (effective (avi_kind.fields o) e ≡ []) ⊎ (length (avi_kind.new_file o e) ≤ 2 ^ 63 - 1) }
-    ensures by_effect { (o : List ℕ) (e all : List EditItem) → e ≡ effective (avi_kind.fields o) all
-        → SameEdit avi_kind o e all }
-    ensures lawful { (o : List ℕ) → IsLawful (avi_kind.fields o) }
-{}
-
-/// Of the same files: an accepted edit of fields and names that isn't too large makes a supported file, whose fields read back
-/// as the old ones updated, and whose tables find the same.
-pub fn named_edits_are_made()
-    ensures supported { (o : List ℕ) (e : List EditItem) → IsBytes o → avi_kind.why o ≡ None → IsAccepted avi_kind o e
-        → avi_kind.too_large o e ≡ None → avi_kind.why (avi_kind.new_file o e) ≡ None }
-    ensures fields { (o : List ℕ) (e : List EditItem) → IsBytes o → avi_kind.why o ≡ None → IsAccepted avi_kind o e
-        → avi_kind.too_large o e ≡ None → (name : FieldName) → IsFieldName name ⊎ NamesFields e
-        → avi_kind.fields (avi_kind.new_file o e) name ≡ update (avi_kind.fields o) e name }
-    ensures tables { (o : List ℕ) (e : List EditItem) → IsBytes o → avi_kind.why o ≡ None → IsAccepted avi_kind o e
-        → avi_kind.too_large o e ≡ None → avi_kind.pieces (avi_kind.new_file o e) ≡ avi_kind.pieces o }
-{}
-
 /// Where lists change and nothing is too large, the new file is the old one with the spans of one list replaced: the form's
 /// size, the bodies of tables with their numbers moved, the slots of units and the form's pad. The spans ascend, are disjoint
 /// and lie in the old file, and the ranges between them put each place where the tables' numbers are moved.
 pub fn new_is_one_splice()
-    ensures { (o : List ℕ) (e : List EditItem) → IsBytes o → Supported o → too_large o e ≡ None → (changes o e ≡ []) ⊎ IsOneSplice o (changes o e) (new_file o e) }
+    ensures { (o : List ℕ) (e : List EditItem) → IsBytes o → Supported o → too_large o e ≡ None
+        → (changes o e ≡ []) ⊎ IsOneSplice o (changes o e) (new_file o e) }
+{}
+
+/// The same where the names of streams are fields too: the form's size, the bodies of tables with their numbers moved, the sizes of
+/// `hdrl` and of the streams' lists that are edited, the slots of units, and pads.
+pub fn named_new_is_one_splice()
+    ensures { (o : List ℕ) (e : List EditItem) → IsBytes o → Supported o → avi_kind.too_large o e ≡ None
+        → (is_idle (all_changes o e) ≡ true) ⊎ IsJoinedSplice o (all_changes o e) (avi_kind.new_file o e) }
 {}
 
 /// Where an edit has room, no number of a table changes.
 pub fn numbers_stay_in_place()
-    ensures { (o : List ℕ) (e : List EditItem) → IsBytes o → Supported o → Room o e → renumbered (move (moves o (changes o e))) o ≡ o }
+    ensures { (o : List ℕ) (e : List EditItem) → IsBytes o → Supported o → Room o e
+        → renumbered (move (moves o (changes o e))) o ≡ o }
 {}
 
 /// Where nothing is too large, the body of the new file's first form has at most 2^32-1 bytes.
@@ -108,10 +97,14 @@ pub fn new_form_is_no_larger()
 /// standard indexes and of `idx1` hold their bodies.
 pub fn what_is_told()
     ensures parts { (b : List ℕ) → count_parts (parts_of b) ≡ parts (avi_of b) }
-    ensures essence { (b : List ℕ) → IsBytes b → Supported b → map (bytes_in b) (essence_spans b) ≡ map (λ x. x.chunk.body) (essence (avi_of b)) }
-    ensures supers { (b : List ℕ) → IsBytes b → Supported b → map (bytes_in b) (map table_span (supers b)) ≡ map (λ t. t.body) (supers b) }
-    ensures standards { (b : List ℕ) → IsBytes b → Supported b → map (bytes_in b) (map table_span (standards b)) ≡ map (λ t. t.body) (standards b) }
-    ensures olds { (b : List ℕ) → IsBytes b → Supported b → map (bytes_in b) (map table_span (olds b)) ≡ map (λ t. t.body) (olds b) }
+    ensures essence { (b : List ℕ) → IsBytes b → Supported b
+        → map (bytes_in b) (essence_spans b) ≡ map (λ x. x.chunk.body) (essence (avi_of b)) }
+    ensures supers { (b : List ℕ) → IsBytes b → Supported b
+        → map (bytes_in b) (map table_span (supers b)) ≡ map (λ t. t.body) (supers b) }
+    ensures standards { (b : List ℕ) → IsBytes b → Supported b
+        → map (bytes_in b) (map table_span (standards b)) ≡ map (λ t. t.body) (standards b) }
+    ensures olds { (b : List ℕ) → IsBytes b → Supported b
+        → map (bytes_in b) (map table_span (olds b)) ≡ map (λ t. t.body) (olds b) }
 {}
 
 /// What is read of any bytes spells them, also where the reading stops at a refusal: the forms with what is left of the file,
@@ -130,10 +123,14 @@ pub fn forms_are_read_in_turn()
 /// What is tested of the entries of tables, and which are counted, is the same for the index chunks in any order, so for those
 /// by place. In a supported file these ascend, and so do the bodies of the movi lists.
 pub fn indexes_are_searched_by_place()
-    ensures rows { (base : Base) (movi : Span) (ts : List Table) (k : ℕ) (rs : List (List ℕ)) → old_tests base movi (spans (by_place ts)) k rs ≡ old_tests base movi (spans ts) k rs }
-    ensures entries { (movis : List Span) (ts : List Table) (base k : ℕ) (rs : List (List ℕ)) → entries_tests movis (spans (by_place ts)) base k rs ≡ entries_tests movis (spans ts) base k rs }
-    ensures based { (b : List ℕ) (ts : List Table) (movi : Span) (rs : List (List ℕ)) → is_based b (spans (by_place ts)) movi rs ≡ is_based b (spans ts) movi rs }
-    ensures counted { (base : Base) (movi : Span) (ts : List Table) (r : List ℕ) → counted base movi (spans (by_place ts)) r ≡ counted base movi (spans ts) r }
+    ensures rows { (base : Base) (movi : Span) (ts : List Table) (k : ℕ) (rs : List (List ℕ))
+        → old_tests base movi (spans (by_place ts)) k rs ≡ old_tests base movi (spans ts) k rs }
+    ensures entries { (movis : List Span) (ts : List Table) (base k : ℕ) (rs : List (List ℕ))
+        → entries_tests movis (spans (by_place ts)) base k rs ≡ entries_tests movis (spans ts) base k rs }
+    ensures based { (b : List ℕ) (ts : List Table) (movi : Span) (rs : List (List ℕ))
+        → is_based b (spans (by_place ts)) movi rs ≡ is_based b (spans ts) movi rs }
+    ensures counted { (base : Base) (movi : Span) (ts : List Table) (r : List ℕ)
+        → counted base movi (spans (by_place ts)) r ≡ counted base movi (spans ts) r }
     ensures ascend { (b : List ℕ) → Supported b → Ascends 0 (spans (by_place (indexes b))) }
     ensures movis { (b : List ℕ) → IsBytes b → Supported b → Ascends 0 (movi_spans (avi_of b)) }
 {}

@@ -9,7 +9,7 @@ use Rattle.container_model.proofs.Written.{length-slice}
 use Rattle.riff_form.specs.declared.ChunkAt.{ChunkAt}
 use Rattle.riff_form.specs.Walk.{InOrder, chunk_in, row}
 use Rattle.carrier_model.specs.Names.{is_name, is_head}
-use Rattle.avi_names.specs.Names.{names_from, behind_heads, chunks_of, names_of, new_place}
+use Rattle.avi_names.specs.Names.{EndBy, names_from, behind_heads, chunks_of, names_of, new_place}
 
 -- the names that were found, and those of the chunks from a place on, are all
 pub record NamesLeft (at : ℕ) (rest : Run) (found all : List Span) : Type 0 where
@@ -73,6 +73,12 @@ placed at to rest next c found new place t left p is n = record {
 
 pub all_placed : (at : ℕ) (rest : Run) (bytes : List ℕ) (found place : ℕ) → PlaceLeft at rest found place → rest ≡ stopped ends bytes → found ≡ place
 all_placed at rest bytes found place left e = ap (λ (r : Run). behind_heads found at r.chunks) (sym e) ∙ left.behind
+
+-- ---- where names end
+
+pub end_more : (end : ℕ) (ss : List Span) (s : Span) → EndBy end ss → s.at + s.len ≤ end → EndBy end (ss ++ s ∷ [])
+end_more end [] s all one = (one, tt)
+end_more end (t ∷ ts) s all one = (all.0, end_more end ts s all.1 one)
 
 -- ---- before the first chunk, and one chunk
 

@@ -1,5 +1,6 @@
 -- The names of a stream in its list (AVI RIFF File Reference, strl).
-use Rattle.std.specs.Prelude.{◌≡◌, ℕ, ◌+◌, List, [], ◌∷◌, ◌++◌, length, codes, if◌then◌else◌}
+use Rattle.std.specs.Prelude.{◌≡◌, ◌≤◌, ℕ, ◌+◌, List, [], ◌∷◌, ◌++◌, length, codes, if◌then◌else◌}
+use Rattle.std.specs.List.{AllByRecursion}
 use Rattle.me_disk.specs.Disk.{Disk}
 use Rattle.me_disk.specs.Holds.{Holds}
 use Rattle.part_tree.specs.declared.names.Span.{Span}
@@ -26,6 +27,10 @@ chunks_of b strl = row b strl.at (strl.at + strl.len)
 -- a list whose chunks end with it
 abbrev pub IsWhole : Disk → Span → Type 0
 IsWhole d strl = (b : List ℕ) → Holds d b → (chunks_of b strl).stop ≡ ends
+
+-- each range ends at a place or before
+abbrev pub EndBy : ℕ → List Span → Type 0
+EndBy end ss = AllByRecursion (λ s. s.at + s.len ≤ end) ss
 
 -- the bodies of a stream's names
 abbrev pub names_of : List ℕ → Span → List Span

@@ -6,7 +6,7 @@ ghost use Rattle.me_disk.specs.Steps.{HasCause, ReadsOnly};
 ghost use Rattle.container_model.specs.Chunk.{riff};
 ghost use Rattle.riff_form.specs.Walk.{chunk_in};
 ghost use Rattle.carrier_model.specs.Names.{is_head as stands_first};
-ghost use Rattle.avi_names.specs.Names.{IsWhole, names_of, new_place};
+ghost use Rattle.avi_names.specs.Names.{EndBy, IsWhole, names_of, new_place};
 
 use me_disk::{Depot, DepotFault};
 use part_tree::Span;
@@ -52,6 +52,7 @@ pub fn strl_names<D: Depot>(
     requires small { strl.at + strl.len < 2 ^ 63 }
     requires whole { IsWhole (D.disk depot.old) strl }
     ensures names { (b : List ℕ) → Holds (D.disk depot.old) b → IfOk result (λ found. found.items ≡ names_of b strl) }
+    ensures inside { IfOk result (λ found. EndBy (strl.at + strl.len) found.items) }
     ensures reads { ReadsOnly (D.disk depot.old) (D.disk depot.new) }
     ensures cause { result ≡ Err NamesFault.Depot → Rose (D.disk depot.old).faults (D.disk depot.new).faults }
 {

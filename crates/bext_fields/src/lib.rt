@@ -153,8 +153,10 @@ macro_rules! range_of_row {
 /// Each row of the table is the range of its number in the model, with the same form.
 pub fn rows_are_the_ranges()
     ensures rows { (k : ℕ) (d : FieldRow) → k < 14 → IsModelRow (get_or BEXT k d) k }
-    ensures bytes { (k : ℕ) (d : FieldRow) (body : List ℕ) → k < 14 → bytes_of (get_or BEXT k d) body ≡ range_of k body }
-    ensures laid { (k : ℕ) (d : FieldRow) (raw body : List ℕ) → k < 14 → with_bytes (get_or BEXT k d) raw body ≡ lay_range k raw body }
+    ensures bytes { (k : ℕ) (d : FieldRow) (body : List ℕ) → k < 14
+        → bytes_of (get_or BEXT k d) body ≡ range_of k body }
+    ensures laid { (k : ℕ) (d : FieldRow) (raw body : List ℕ) → k < 14
+        → with_bytes (get_or BEXT k d) raw body ≡ lay_range k raw body }
 {}
 
 /// A body of so many bytes is too short for a `bext`.

@@ -38,5 +38,6 @@ pub fn units_are_patched()
 
 /// A place of a file in none of the spans that an edit replaces is put by the ranges between them where the spans shift it.
 pub fn places_go_with_their_range()
-    ensures { (cs : List Cut) (end p : ℕ) → Ascend 0 cs end → Outside cs p → p < end → place (moves_of cs end) p ≡ Some (shift cs p) }
+    ensures { (cs : List Cut) (end p : ℕ) → Ascend 0 cs end → Outside cs p → p < end
+        → place (moves_of cs end) p ≡ Some (shift cs p) }
 {}

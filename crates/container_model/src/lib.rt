@@ -28,15 +28,18 @@ pub fn riff_spells()
 
 /// What is read of bytes without a fault is a decomposition of them.
 pub fn riff_decomposes()
-    ensures { (s : Sizes) (b : List ℕ) → IsBytes b → (chunks riff_front s b).stop ≡ ends → Reads riff_front s (chunks riff_front s b).chunks (chunks riff_front s b).left }
+    ensures { (s : Sizes) (b : List ℕ) → IsBytes b → (chunks riff_front s b).stop ≡ ends
+        → Reads riff_front s (chunks riff_front s b).chunks (chunks riff_front s b).left }
 {}
 
 /// A byte in no span stands where the spans before it move it.
 pub fn bytes_move()
-    ensures { (b : List ℕ) (cs : List Cut) (p : ℕ) → Ascend 0 cs (length b) → Outside cs p → get_or (splice b cs) (shift cs p) 0 ≡ get_or b p 0 }
+    ensures { (b : List ℕ) (cs : List Cut) (p : ℕ) → Ascend 0 cs (length b) → Outside cs p
+        → get_or (splice b cs) (shift cs p) 0 ≡ get_or b p 0 }
 {}
 
 /// Places in no span keep their order.
 pub fn places_keep_order()
-    ensures { (end : ℕ) (cs : List Cut) (p q : ℕ) → Ascend 0 cs end → Outside cs p → Outside cs q → p < q → shift cs p < shift cs q }
+    ensures { (end : ℕ) (cs : List Cut) (p q : ℕ) → Ascend 0 cs end → Outside cs p → Outside cs q → p < q
+        → shift cs p < shift cs q }
 {}

@@ -22,7 +22,8 @@ pub(crate) fn is_header(header: &ByteRecord) -> bool
 // Looks at the name of column `n`, and takes it.
 fn check_column(alloc: Global, seen: &mut Seen, name: &[u8], n: u32) -> Result<(), TableFault>
     ensures answer { Answers (unless (column_fault n seen.old name.now) (Ok tt)) result }
-    ensures taken { OnOk result ((other : List ℕ) → has seen.new other ≡ (bytes_eq other name.now || has seen.old other)) }
+    ensures taken { OnOk result ((other : List ℕ)
+        → has seen.new other ≡ (bytes_eq other name.now || has seen.old other)) }
 {
     if field_name(name).is_none() {
         return Err(TableFault::UnknownColumn { n });

@@ -41,7 +41,8 @@ fn read_records(
     requires few { size + 1 < 2 ^ 32 }
     requires reading { IsReading reader.old }
     requires size { length (text_of reader.old) ≡ size }
-    ensures { Answers (spec.read file.now (records_from default_config (size + 1) (state_of reader.old) (text_of reader.old))) result }
+    ensures { Answers
+        (spec.read file.now (records_from default_config (size + 1) (state_of reader.old) (text_of reader.old))) result }
 {
     let mut header = ByteRecord::new(alloc);
     if !next(reader, &mut header)? {
@@ -67,7 +68,9 @@ fn read_rows(
     requires some { 0 < length (fields_of header.now) }
     requires small { length (fields_of header.now) < 2 ^ 32 }
     requires sound { spec.header_fault 2 [] (drop 1 (fields_of header.now)) ≡ None }
-    ensures { Answers (spec.read_rows file.now (drop 1 (fields_of header.now)) 1 None (records_from default_config most (state_of reader.old) (text_of reader.old))) result }
+    ensures { Answers
+        (spec.read_rows file.now (drop 1 (fields_of header.now)) 1 None
+        (records_from default_config most (state_of reader.old) (text_of reader.old))) result }
 {
     let mut row = ByteRecord::new(alloc);
     let mut found = None;

@@ -27,7 +27,9 @@ pub(crate) fn start(alloc: Global, bytes: &[u8]) -> Reader<&[u8]>
 pub(crate) fn next(reader: &mut Reader<&[u8]>, row: &mut ByteRecord) -> Result<bool, TableFault>
     requires { IsReading reader.old }
     ensures reading { OnOk result (IsReading reader.new) }
-    ensures found { IfOk result (λ found. NextIs (next_record default_config (state_of reader.old) [] [] (text_of reader.old)) found (fields_of row.new) (state_of reader.new) (text_of reader.new)) }
+    ensures found { IfOk result
+        (λ found. NextIs (next_record default_config (state_of reader.old) [] [] (text_of reader.old)) found
+        (fields_of row.new) (state_of reader.new) (text_of reader.new)) }
     ensures memory { IfErr result (λ e. e ≡ TableFault.Memory) }
 {
     match reader.read_byte_record(row) {

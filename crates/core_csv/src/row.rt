@@ -42,7 +42,8 @@ fn is_row_of(
     n: u32,
     row: &ByteRecord,
 ) -> Result<bool, TableFault>
-    ensures { Answers (unless (spec.row_fault width n (fields_of row.now)) (Ok (spec.is_row_of file.now (fields_of row.now)))) result }
+    ensures { Answers
+        (unless (spec.row_fault width n (fields_of row.now)) (Ok (spec.is_row_of file.now (fields_of row.now)))) result }
 {
     if row.len() != width {
         return Err(TableFault::RowLength { row: n });

@@ -47,8 +47,10 @@ fn push_column(
     requires lawful { IsLawful (values fields.now) }
     requires header { partial_of header.old ≡ [] }
     requires row { partial_of row.old ≡ [] }
-    ensures names { OnOk result (fields_of header.new ≡ fields_of header.old ++ spec.labels (values fields.now) (name.now ∷ [])) }
-    ensures texts { OnOk result (fields_of row.new ≡ fields_of row.old ++ spec.texts (values fields.now) (name.now ∷ [])) }
+    ensures names { OnOk result (fields_of header.new
+        ≡ fields_of header.old ++ spec.labels (values fields.now) (name.now ∷ [])) }
+    ensures texts { OnOk result (fields_of row.new
+        ≡ fields_of row.old ++ spec.texts (values fields.now) (name.now ∷ [])) }
     ensures whole_header { OnOk result (partial_of header.new ≡ []) }
     ensures whole_row { OnOk result (partial_of row.new ≡ []) }
 {
@@ -70,8 +72,10 @@ fn push_columns(
     requires lawful { IsLawful (values fields.now) }
     requires header { partial_of header.old ≡ [] }
     requires row { partial_of row.old ≡ [] }
-    ensures names { OnOk result (fields_of header.new ≡ fields_of header.old ++ spec.labels (values fields.now) (names fields.now)) }
-    ensures texts { OnOk result (fields_of row.new ≡ fields_of row.old ++ spec.texts (values fields.now) (names fields.now)) }
+    ensures names { OnOk result (fields_of header.new
+        ≡ fields_of header.old ++ spec.labels (values fields.now) (names fields.now)) }
+    ensures texts { OnOk result (fields_of row.new
+        ≡ fields_of row.old ++ spec.texts (values fields.now) (names fields.now)) }
 {
     let mut k = 0;
     'names: while let Some(name) = fields.name_at(k) {
@@ -83,7 +87,8 @@ fn push_columns(
 
 // The text of a header and a row.
 fn table_of(alloc: Global, header: &ByteRecord, row: &ByteRecord) -> Result<Bytes, NoMemory>
-    ensures { IfOk result (λ text. text ≡ row_text default_writer (fields_of header.now) ++ row_text default_writer (fields_of row.now)) }
+    ensures { IfOk result (λ text. text
+        ≡ row_text default_writer (fields_of header.now) ++ row_text default_writer (fields_of row.now)) }
 {
     let mut writer = WriterBuilder::new().from_writer(Vec::new(alloc));
     if writer.write_byte_record(header).is_err() || writer.write_byte_record(row).is_err() {

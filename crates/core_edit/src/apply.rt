@@ -44,7 +44,8 @@ const FIELDS: [BextField; 15] = [
 /// whose text its field can't have changes nothing.
 pub fn update(alloc: Global, fields: &Fields, edit: &Edit) -> Result<Fields, NoMemory>
     requires { IsLawful (values fields.now) }
-    ensures values { IfOk result (λ new. (name : Name) → values new name ≡ spec.update (values fields.now) edit.now name) }
+    ensures values { IfOk result (λ new. (name : Name)
+        → values new name ≡ spec.update (values fields.now) edit.now name) }
     ensures lawful { IfOk result (λ new. IsLawful (values new)) }
 {
     let kept = effective(alloc, fields, edit)?;
@@ -57,7 +58,8 @@ pub fn update(alloc: Global, fields: &Fields, edit: &Edit) -> Result<Fields, NoM
 // The fields with `bext` made or raised where a change is of it.
 fn prepare(alloc: Global, fields: &Fields, changes: &[RawChange]) -> Result<Fields, NoMemory>
     requires { IsLawful (values fields.now) }
-    ensures { IfOk result (λ new. (name : Name) → values new name ≡ prepared (raw_items_of changes.now) (values fields.now) name) }
+    ensures { IfOk result (λ new. (name : Name)
+        → values new name ≡ prepared (raw_items_of changes.now) (values fields.now) name) }
 {
     let mut new = fields.copy(alloc)?;
     if !has_bext(changes) {
@@ -99,7 +101,9 @@ fn raised_value(
     field: BextField,
 ) -> Result<Value, NoMemory>
     requires { IsLawful (values fields.now) }
-    ensures { IfOk result (λ value. spec.raised_values to (version_of (values fields.now)) field (spec.made (values fields.now) field) ≡ value ∷ []) }
+    ensures { IfOk result
+        (λ value. spec.raised_values to (version_of (values fields.now)) field (spec.made (values fields.now) field)
+        ≡ value ∷ []) }
 {
     match raised_raw(version(fields), to, field) {
         Some(raw) => plain_value(alloc, raw.as_slice()),
@@ -146,7 +150,8 @@ fn plain_value(alloc: Global, bytes: &[u8]) -> Result<Value, NoMemory>
 // Each change lays its value, or takes the values away.
 fn put_changes(alloc: Global, new: &mut Fields, changes: &[RawChange]) -> Result<(), NoMemory>
     requires { AreOfFields (raw_items_of changes.now) }
-    ensures { OnOk result ((name : Name) → values new.new name ≡ spec.updated_values (raw_items_of changes.now) name (values new.old name)) }
+    ensures { OnOk result ((name : Name)
+        → values new.new name ≡ spec.updated_values (raw_items_of changes.now) name (values new.old name)) }
 {
     for change in changes {
         put_change(alloc, new, change)?;
@@ -156,7 +161,9 @@ fn put_changes(alloc: Global, new: &mut Fields, changes: &[RawChange]) -> Result
 
 fn put_change(alloc: Global, new: &mut Fields, change: &RawChange) -> Result<(), NoMemory>
     requires { IsFieldName change.now.name }
-    ensures { OnOk result ((name : Name) → values new.new name ≡ (if same_name change.now.name name then spec.listed change.now.value else values new.old name)) }
+    ensures { OnOk result ((name : Name)
+        → values new.new name ≡
+        (if same_name change.now.name name then spec.listed change.now.value else values new.old name)) }
 {
     let value = copy_value(alloc, &change.value)?;
     new.replace(change.name, value)

@@ -19,7 +19,8 @@ use std::alloc::Global;
 /// The items of an edit in raw bytes, in order. An item whose text its field can't have is none of them.
 pub fn raw_changes(alloc: Global, edit: &Edit) -> Result<Vec<RawChange>, NoMemory>
     ensures items { IfOk result (λ changes. raw_items_of changes.items ≡ filter_map spec.raw_item edit.now) }
-    ensures effective { (f : FieldMap) → spec.effective f edit.now ≡ edit.now → IfOk result (λ changes. raw_items_of changes.items ≡ spec.raw_items f edit.now) }
+    ensures effective { (f : FieldMap) → spec.effective f edit.now ≡ edit.now
+        → IfOk result (λ changes. raw_items_of changes.items ≡ spec.raw_items f edit.now) }
     ensures names { IfOk result (λ changes. AreOfFields (raw_items_of changes.items)) }
     ensures fit { IfOk result (λ changes. FitBext (raw_items_of changes.items)) }
     ensures keys { IfOk result (λ changes. FitKeys (raw_items_of changes.items)) }
@@ -34,7 +35,8 @@ pub fn raw_changes(alloc: Global, edit: &Edit) -> Result<Vec<RawChange>, NoMemor
 
 // Appends an item in raw bytes.
 fn put_change(alloc: Global, changes: &mut Vec<RawChange>, item: &EditItem) -> Result<(), NoMemory>
-    ensures { OnOk result (raw_items_of changes.new.items ≡ raw_items_of changes.old.items ++ filter_map spec.raw_item (item.now ∷ [])) }
+    ensures { OnOk result (raw_items_of changes.new.items
+        ≡ raw_items_of changes.old.items ++ filter_map spec.raw_item (item.now ∷ [])) }
 {
     let Some(change) = raw_change(alloc, item)? else {
         return Ok(());

@@ -116,7 +116,8 @@ fn keep(
     item: &EditItem,
 ) -> Result<(), NoMemory>
     requires { IsLawful (values fields.now) }
-    ensures { OnOk result (kept.new.items ≡ kept.old.items ++ filter (spec.has_effect (values fields.now)) (item.now ∷ [])) }
+    ensures { OnOk result (kept.new.items
+        ≡ kept.old.items ++ filter (spec.has_effect (values fields.now)) (item.now ∷ [])) }
 {
     if !has_effect(fields, item) {
         return Ok(());

@@ -58,7 +58,8 @@ fn value_shows(version: u16, name: &FieldName, raw: &[u8], text: &[u8]) -> bool
 
 // Whether a shown text is what the spelling of another one shows.
 fn is_spelled(version: u16, name: &FieldName, found: &ShownText, text: &[u8]) -> bool
-    ensures { result ≡ spec.same_text (Some (text_of found.now)) (spelled_at version name.now (raw_of name.now text.now)) }
+    ensures { result ≡ spec.same_text (Some (text_of found.now))
+        (spelled_at version name.now (raw_of name.now text.now)) }
 {
     match name {
         FieldName::Bext(field) => is_spelled_bext(version, *field, found, text),
@@ -70,7 +71,8 @@ fn is_spelled(version: u16, name: &FieldName, found: &ShownText, text: &[u8]) ->
 }
 
 fn is_spelled_whole(id: &FourCc, found: &ShownText, text: &[u8]) -> bool
-    ensures { result ≡ spec.same_text (Some (text_of found.now)) (spelled_whole id.now.0 (raw_whole id.now.0 text.now)) }
+    ensures { result
+        ≡ spec.same_text (Some (text_of found.now)) (spelled_whole id.now.0 (raw_whole id.now.0 text.now)) }
 {
     if !id.is(b"MD5 ") {
         return found.is(&ShownText::Plain(text));
@@ -82,7 +84,8 @@ fn is_spelled_whole(id: &FourCc, found: &ShownText, text: &[u8]) -> bool
 }
 
 fn is_spelled_bext(version: u16, field: BextField, found: &ShownText, text: &[u8]) -> bool
-    ensures { result ≡ spec.same_text (Some (text_of found.now)) (spelled_form (form_of field) version (raw_form (form_of field) field text.now)) }
+    ensures { result ≡ spec.same_text (Some (text_of found.now))
+        (spelled_form (form_of field) version (raw_form (form_of field) field text.now)) }
 {
     match form(field) {
         Form::Text => is_spelled_text(field, found, text),
@@ -91,7 +94,8 @@ fn is_spelled_bext(version: u16, field: BextField, found: &ShownText, text: &[u8
 }
 
 fn is_spelled_text(field: BextField, found: &ShownText, text: &[u8]) -> bool
-    ensures { (version : ℕ) → result ≡ spec.same_text (Some (text_of found.now)) (spelled_form Text version (raw_form Text field text.now)) }
+    ensures { (version : ℕ) → result
+        ≡ spec.same_text (Some (text_of found.now)) (spelled_form Text version (raw_form Text field text.now)) }
 {
     if !fits_width(field, text) {
         return false;
@@ -105,7 +109,8 @@ fn is_spelled_text(field: BextField, found: &ShownText, text: &[u8]) -> bool
 
 fn is_spelled_short(version: u16, field: BextField, found: &ShownText, text: &[u8]) -> bool
     requires { IsNoText (form_of field) }
-    ensures { result ≡ spec.same_text (Some (text_of found.now)) (spelled_form (form_of field) version (raw_form (form_of field) field text.now)) }
+    ensures { result ≡ spec.same_text (Some (text_of found.now))
+        (spelled_form (form_of field) version (raw_form (form_of field) field text.now)) }
 {
     let Some(raw) = short_raw(field, text) else {
         return false;
@@ -140,7 +145,8 @@ fn removes_bext(fields: &Fields, field: BextField) -> bool
 // Whether there is nothing to remove in the bytes of a field: they show nothing, or are a time reference of 0.
 fn is_nothing(version: u16, field: BextField, raw: &[u8]) -> bool
     requires { FillsRange field raw.now }
-    ensures { result ≡ (is_none (shown_form (form_of field) version raw.now) || ((bext_row field == 5) && (le raw.now == 0))) }
+    ensures { result ≡
+        (is_none (shown_form (form_of field) version raw.now) || ((bext_row field == 5) && (le raw.now == 0))) }
 {
     shown_bext(version, field, raw).is_none() || (field.row() == 5 && number_8(raw) == 0)
 }

@@ -170,7 +170,8 @@ pub fn field_name(text: &[u8]) -> Option<FieldName>
 
 // The user field, the key or the stream that a text names.
 fn other_name(text: &[u8]) -> Option<FieldName>
-    ensures { result ≡ or_name (spec.user_name text.now) (or_name (spec.key_name text.now) (spec.stream_name text.now)) }
+    ensures { result
+        ≡ or_name (spec.user_name text.now) (or_name (spec.key_name text.now) (spec.stream_name text.now)) }
 {
     if let Some(name) = user_name(text) {
         return Some(name);
@@ -234,7 +235,8 @@ fn stream_name(text: &[u8]) -> Option<FieldName>
 
 // What stands behind a word. None where the text doesn't begin with it.
 fn behind<'a>(word: &[u8], text: &'a [u8]) -> Option<&'a [u8]>
-    ensures { option_copied result ≡ (if bytes_eq (take (length word.now) text.now) word.now then Some (drop (length word.now) text.now) else None) }
+    ensures { option_copied result ≡
+        (if bytes_eq (take (length word.now) text.now) word.now then Some (drop (length word.now) text.now) else None) }
 {
     if text.len() < word.len() || &text[..word.len()] != word {
         return None;

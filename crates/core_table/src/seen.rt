@@ -35,7 +35,8 @@ impl Seen {
     /// Takes a name. Whether it is a new one.
     pub fn add(&mut self, alloc: Global, name: &[u8]) -> Result<bool, NoMemory>
         ensures added { IfOk result (λ added. added ≡ not (has self.old name.now)) }
-        ensures held { OnOk result ((other : List ℕ) → has self.new other ≡ (bytes_eq other name.now || has self.old other)) }
+        ensures held { OnOk result ((other : List ℕ)
+            → has self.new other ≡ (bytes_eq other name.now || has self.old other)) }
     {
         let copy = Vec::from_slice(alloc, name)?;
         match self.held.insert(copy) {

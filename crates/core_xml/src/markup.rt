@@ -36,7 +36,8 @@ fn unmark(alloc: Global, marked: &[u8]) -> Result<Option<Bytes>, NoMemory>
 // Returns how many of the others are the rest of one, and None where no character begins.
 fn read_letter(text: &mut Vec<u8>, marked: &[u8], more: usize) -> Result<Option<usize>, NoMemory>
     requires { 0 < length marked.now }
-    ensures { IfOk result (λ next. spec.joined text.new.items (spec.left next (drop 1 marked.now)) ≡ spec.joined text.old.items (spec.unmarked_from more marked.now)) }
+    ensures { IfOk result (λ next. spec.joined text.new.items (spec.left next (drop 1 marked.now))
+        ≡ spec.joined text.old.items (spec.unmarked_from more marked.now)) }
 {
     if more > 0 {
         return Ok(Some(more - 1));

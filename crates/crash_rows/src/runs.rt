@@ -122,7 +122,8 @@ pub fn depot_with(
 /// Lets every call after the n-th fail.
 pub fn stop(depot: &mut MemoryDepot, n: u64)
     ensures alone { StandsAlone file (memory_disk depot.old) → StandsAlone file (memory_disk depot.new) }
-    ensures only { Only (read_as (memory_disk depot.old).slots) (memory_disk depot.old) → Only (read_as (memory_disk depot.new).slots) (memory_disk depot.new) }
+    ensures only { Only (read_as (memory_disk depot.old).slots) (memory_disk depot.old)
+        → Only (read_as (memory_disk depot.new).slots) (memory_disk depot.new) }
 {
     depot.stop_after(n);
 }
@@ -191,7 +192,8 @@ pub fn recovery_of(depot: &mut MemoryDepot) -> Result<Recovered, RecoverFault>
     requires { Only (read_as (memory_disk depot.old).slots) (memory_disk depot.old) }
     ensures done { OnOk result (Recovers (memory_disk depot.old) (memory_disk depot.new)) }
     ensures refusal { IfErr result (λ e. IsRefusal e → ReadsOnly (memory_disk depot.old) (memory_disk depot.new)) }
-    ensures crash { Leaves (SettlesAlike (read_as (memory_disk depot.old).slots)) (memory_disk depot.old) (memory_disk depot.new) }
+    ensures crash { Leaves (SettlesAlike (read_as (memory_disk depot.old).slots)) (memory_disk depot.old)
+        (memory_disk depot.new) }
 {
     recover(depot)
 }
@@ -206,7 +208,8 @@ pub fn is_recovered(mut depot: MemoryDepot, want: &[u8]) -> bool
 
 /// Whether the depot holds this file and nothing else.
 pub fn holds_alone(depot: &MemoryDepot, want: &[u8]) -> bool
-    ensures { IsTrue result ↔ ((memory_disk depot.now).slots ≡ record { main = Some want.now; journal = None; work = None }) }
+    ensures { IsTrue result ↔ ((memory_disk depot.now).slots
+        ≡ record { main = Some want.now; journal = None; work = None }) }
 {
     holds(depot, want) && !has(depot, Slot::Journal) && !has(depot, Slot::Work)
 }
@@ -246,7 +249,8 @@ pub fn check_of(
 ) -> Result<Result<JournalHead, JournalFault>, NoMemory>
     ensures whole { IfOk result (λ answer. OnOk answer (damage_over (zeros len) journal.items ≡ None)) }
     ensures head { IfOk result (λ answer. IfOk answer (λ head. IsJournalOf head journal.items)) }
-    ensures damaged { IfOk result (λ answer. IfErr answer (λ e. OnDamaged e (λ at. damage_over (zeros len) journal.items ≡ Some at))) }
+    ensures damaged { IfOk result
+        (λ answer. IfErr answer (λ e. OnDamaged e (λ at. damage_over (zeros len) journal.items ≡ Some at))) }
 {
     let main = zero_file(alloc, len)?;
     let mut depot = depot_with(alloc, main, journal, Vec::new(alloc))?;

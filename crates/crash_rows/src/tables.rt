@@ -185,8 +185,11 @@ pub fn run_tables<D: Depot>(depot: &mut D, swap: Swap) -> bool
     requires swap { swap ≡ fresh tables }
     requires alone { StandsAlone (bytes_of (D.disk depot.old).slots.main) (D.disk depot.old) }
     requires belongs { IsTrue (D.disk depot.old).tells → Belongs tables (bytes_of (D.disk depot.old).slots.main) }
-    ensures done { IsTrue result → StandsAlone (applied tables (bytes_of (D.disk depot.old).slots.main)) (D.disk depot.new) }
-    ensures crash { Leaves (SettlesEither (bytes_of (D.disk depot.old).slots.main) (applied tables (bytes_of (D.disk depot.old).slots.main))) (D.disk depot.old) (D.disk depot.new) }
+    ensures done { IsTrue result → StandsAlone (applied tables (bytes_of (D.disk depot.old).slots.main))
+        (D.disk depot.new) }
+    ensures crash { Leaves
+        (SettlesEither (bytes_of (D.disk depot.old).slots.main)
+        (applied tables (bytes_of (D.disk depot.old).slots.main))) (D.disk depot.old) (D.disk depot.new) }
 {
     swap.run(depot).is_ok()
 }

@@ -26,7 +26,8 @@ pub(crate) struct Tally {
 // The length of the longest run that begins at a place.
 fn run_len(bytes: &[u8], from: usize) -> usize
     requires { from < length bytes.now }
-    ensures runs { maximal_runs (drop from bytes.now) ≡ record { byte = get_or bytes.now from 0; times = result } ∷ maximal_runs (drop (from + result) bytes.now) }
+    ensures runs { maximal_runs (drop from bytes.now)
+        ≡ record { byte = get_or bytes.now from 0; times = result } ∷ maximal_runs (drop (from + result) bytes.now) }
     ensures same { take result (drop from bytes.now) ≡ replicate result (get_or bytes.now from 0) }
     ensures some { (0 < result) × (from + result ≤ length bytes.now) }
 {
@@ -41,7 +42,8 @@ fn run_len(bytes: &[u8], from: usize) -> usize
 // The place of the first long run from a place on, or the end.
 fn plain_end(bytes: &[u8], from: usize) -> usize
     requires { from ≤ length bytes.now }
-    ensures joins { (b : List ℕ) → joined b (cut (drop from bytes.now)) ≡ Plain (b ++ take (result - from) (drop from bytes.now)) ∷ cut (drop result bytes.now) }
+    ensures joins { (b : List ℕ) → joined b (cut (drop from bytes.now))
+        ≡ Plain (b ++ take (result - from) (drop from bytes.now)) ∷ cut (drop result bytes.now) }
     ensures inside { (from ≤ result) × (result ≤ length bytes.now) }
 {
     let mut end = from;
@@ -58,7 +60,8 @@ fn plain_end(bytes: &[u8], from: usize) -> usize
 /// The strip that begins at a place where a run begins.
 pub(crate) fn cut_at(bytes: &[u8], from: usize) -> Cut
     requires { from < length bytes.now }
-    ensures cut { cut (drop from bytes.now) ≡ piece_of result.run (take result.len (drop from bytes.now)) ∷ cut (drop (from + result.len) bytes.now) }
+    ensures cut { cut (drop from bytes.now)
+        ≡ piece_of result.run (take result.len (drop from bytes.now)) ∷ cut (drop (from + result.len) bytes.now) }
     ensures some { (0 < result.len) × (from + result.len ≤ length bytes.now) }
 {
     let run = run_len(bytes, from);

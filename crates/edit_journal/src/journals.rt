@@ -12,13 +12,20 @@ ghost use Rattle.edit_journal.specs.Settled.{Redoes, IsDamaged};
 /// Bytes are the spelling of at most one version, old length, new length and list of strips, and what they lay is the same:
 /// the same byte at each place, the same bytes together, the same file.
 pub fn journals_are_unique()
-    ensures version { (v w : Version) (b : List ℕ) (old new old' new' : ℕ) (ss ts : List Strip) → Spells v b old new ss → Spells w b old' new' ts → v ≡ w }
-    ensures strips { (v : Version) (b : List ℕ) (old new old' new' : ℕ) (ss ts : List Strip) → Spells v b old new ss → Spells v b old' new' ts → laid_by ss ≡ laid_by ts }
-    ensures runs { (b : List ℕ) (old new old' new' : ℕ) (ss ts : List Strip) → Spells Version.Second b old new ss → Spells Version.Second b old' new' ts → ss ≡ ts }
-    ensures lengths { (b : List ℕ) (old new old' new' : ℕ) (ps qs : List Patch) → Journal b old new ps → Journal b old' new' qs → (old ≡ old') × (new ≡ new') }
-    ensures lays { (b : List ℕ) (old new old' new' : ℕ) (ps qs : List Patch) → Journal b old new ps → Journal b old' new' qs → (q : ℕ) → byte_at q ps ≡ byte_at q qs }
-    ensures bytes { (b : List ℕ) (old new : ℕ) (ps : List Patch) → Journal b old new ps → all_bytes (patches_in b) ≡ all_bytes ps }
-    ensures file { (b m : List ℕ) (old new old' new' : ℕ) (ps qs : List Patch) → Journal b old new ps → Journal b old' new' qs → min old new ≤ length m → laid new ps m ≡ laid new' qs m }
+    ensures version { (v w : Version) (b : List ℕ) (old new old' new' : ℕ) (ss ts : List Strip) → Spells v b old new ss
+        → Spells w b old' new' ts → v ≡ w }
+    ensures strips { (v : Version) (b : List ℕ) (old new old' new' : ℕ) (ss ts : List Strip) → Spells v b old new ss
+        → Spells v b old' new' ts → laid_by ss ≡ laid_by ts }
+    ensures runs { (b : List ℕ) (old new old' new' : ℕ) (ss ts : List Strip) → Spells Version.Second b old new ss
+        → Spells Version.Second b old' new' ts → ss ≡ ts }
+    ensures lengths { (b : List ℕ) (old new old' new' : ℕ) (ps qs : List Patch) → Journal b old new ps
+        → Journal b old' new' qs → (old ≡ old') × (new ≡ new') }
+    ensures lays { (b : List ℕ) (old new old' new' : ℕ) (ps qs : List Patch) → Journal b old new ps
+        → Journal b old' new' qs → (q : ℕ) → byte_at q ps ≡ byte_at q qs }
+    ensures bytes { (b : List ℕ) (old new : ℕ) (ps : List Patch) → Journal b old new ps
+        → all_bytes (patches_in b) ≡ all_bytes ps }
+    ensures file { (b m : List ℕ) (old new old' new' : ℕ) (ps qs : List Patch) → Journal b old new ps
+        → Journal b old' new' qs → min old new ≤ length m → laid new ps m ≡ laid new' qs m }
 {}
 
 /// A journal has no damage, and beside a file that it goes with there is none either; beside a damaged one an image stands for
@@ -27,7 +34,8 @@ pub fn journals_are_whole()
     ensures short { (b : List ℕ) (old new : ℕ) (ps : List Patch) → Journal b old new ps → length b < 2 ^ 63 }
     ensures whole { (b : List ℕ) (old new : ℕ) (ps : List Patch) → Journal b old new ps → damage b ≡ None }
     ensures whole_over { (m j file : List ℕ) → Redoes m j file → damage_over (Some m) j ≡ None }
-    ensures damaged { (m : Option (List ℕ)) (j : List ℕ) (at : ℕ) → damage_over m j ≡ Some at → IsDamaged (record { main = m; journal = Some j }) }
+    ensures damaged { (m : Option (List ℕ)) (j : List ℕ) (at : ℕ) → damage_over m j ≡ Some at
+        → IsDamaged (record { main = m; journal = Some j }) }
     ensures rules { (b : List ℕ) (old new : ℕ) (ps : List Patch) → Journal b old new ps → Rules old new ps }
 {}
 

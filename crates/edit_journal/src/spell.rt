@@ -62,7 +62,8 @@ fn put_patches(alloc: Global, out: &mut Vec<u8>, patches: &[Patch]) -> Result<()
 fn put_patch(alloc: Global, out: &mut Vec<u8>, patch: &Patch) -> Result<(), NoMemory>
     requires small { length patch.now.bytes ≤ most_bytes }
     requires low { patch.now.at + length patch.now.bytes < 2 ^ 63 }
-    ensures { OnOk result (out.new.items ≡ out.old.items ++ spelled_strips Second (placed patch.now.at (cut patch.now.bytes))) }
+    ensures { OnOk result (out.new.items
+        ≡ out.old.items ++ spelled_strips Second (placed patch.now.at (cut patch.now.bytes))) }
 {
     let bytes = patch.bytes.as_slice();
     let mut from = 0;
@@ -85,7 +86,8 @@ fn put_strip(
 ) -> Result<(), NoMemory>
     requires some { 0 < length bytes.now }
     requires small { length bytes.now ≤ most_bytes }
-    ensures { OnOk result (out.new.items ≡ out.old.items ++ spelled_strip Second (record { at = at; piece = piece_of run bytes.now })) }
+    ensures { OnOk result (out.new.items
+        ≡ out.old.items ++ spelled_strip Second (record { at = at; piece = piece_of run bytes.now })) }
 {
     put_le64(alloc, out, at)?;
     put_le32(alloc, out, bytes.len() as u32)?;

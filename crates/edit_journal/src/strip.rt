@@ -70,8 +70,14 @@ pub(crate) fn body_size(strip: &StripHead) -> u64
 pub(crate) fn broken(head: &JournalHead, p: &Progress, left: u64, strip: &StripHead) -> Option<u64>
     requires at { p.now.at + left < 2 ^ 63 }
     requires total { p.now.total ≤ most_bytes }
-    ensures breaks { IfSome result (λ at. BreaksAt (strip_tests (version_of head.now.version) head.now.old_len head.now.new_len p.now.end p.now.total p.now.at left strip.now) at) }
-    ensures passes { IfNone result (Passes (strip_tests (version_of head.now.version) head.now.old_len head.now.new_len p.now.end p.now.total p.now.at left strip.now)) }
+    ensures breaks { IfSome result
+        (λ at. BreaksAt
+        (strip_tests (version_of head.now.version) head.now.old_len head.now.new_len p.now.end p.now.total p.now.at left
+        strip.now) at) }
+    ensures passes { IfNone result
+        (Passes
+        (strip_tests (version_of head.now.version) head.now.old_len head.now.new_len p.now.end p.now.total p.now.at left
+        strip.now)) }
     ensures kind { IfNone result (strip.now.kind ≤ 1) }
     ensures some { IfNone result (0 < strip.now.len) }
     ensures after { IfNone result (p.now.end ≤ strip.now.place) }

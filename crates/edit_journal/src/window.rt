@@ -28,10 +28,13 @@ pub(crate) fn fill<D: Depot>(
     requires window { IsWindow window.old }
     requires size { size ≤ 13 }
     requires inside { (at + size ≤ len) × (len < 2 ^ 63) }
-    requires told { IsTrue (D.disk depot.old).tells → Holds window.old (bytes_of (D.disk depot.old).slots.journal) × (len ≡ length (bytes_of (D.disk depot.old).slots.journal)) }
+    requires told { IsTrue (D.disk depot.old).tells
+        → Holds window.old (bytes_of (D.disk depot.old).slots.journal)
+        × (len ≡ length (bytes_of (D.disk depot.old).slots.journal)) }
     ensures window { OnOk result (IsWindow window.new) }
     ensures there { OnOk result ((window.new.at ≤ at) × (at + size ≤ window.new.at + window.new.len)) }
-    ensures holds { OnOk result (IsTrue (D.disk depot.old).tells → Holds window.new (bytes_of (D.disk depot.old).slots.journal)) }
+    ensures holds { OnOk result (IsTrue (D.disk depot.old).tells
+        → Holds window.new (bytes_of (D.disk depot.old).slots.journal)) }
     ensures reads { ReadsOnly (D.disk depot.old) (D.disk depot.new) }
     ensures cause { HasCause (D.disk depot.old) (D.disk depot.new) result }
 {

@@ -10,6 +10,11 @@ use Rattle.part_tree.specs.declared.names.Kind.TheVariants.{Wave, Rf64, Bw64, Av
 use Rattle.part_tree.specs.declared.why.Why.{Why}
 use Rattle.field_model.specs.Kind.{KindModel, IsKind}
 use Rattle.container_model.specs.Tests.{first, or_else}
+use Rattle.part_tree.specs.declared.why.Why.TheVariants.{NotBuilt}
+use Rattle.avi_model.specs.Kind.{avi_kind}
+use Rattle.avi_model.proofs.AviKind.{is_avi_kind}
+use Rattle.mov_model.specs.Kind.{mov_kind}
+use Rattle.mov_model.proofs.WideKind.{is_mov_kind}
 use Rattle.wave_model.specs.Edited.{is_kind}
 use Rattle.wave_model.specs.Kind.{wave_kind}
 use Rattle.wave_model.specs.Why.{why, kind_tests}
@@ -17,7 +22,7 @@ use Rattle.wave_model.proofs.Kind.{wave_law}
 use Rattle.edit_planner.specs.declared.plans.FileMap.{FileMap}
 use Rattle.edit_planner.specs.declared.plans.FileMap.TheVariants as map
 use Rattle.edit_planner.specs.Plan.{Maps}
-use Rattle.edit_planner.specs.Kinds.{kind_at, is_later, later_kind, model_of, model_in}
+use Rattle.edit_planner.specs.Kinds.{edit_why, kind_at, is_avi, is_mov, is_sound, model_of, model_in, unbuilt}
 
 pub of_kind : (P : KindModel → Type 0) (o : List ℕ) (w : Option Kind) → kind_at o ≡ w → P (model_of w) → P (model_in o)
 unfolding model_in
@@ -25,19 +30,9 @@ of_kind P o w is p = subst (λ (v : Option Kind). P (model_of v)) (sym is) p
 
 -- ---- the laws
 
-pub later_law : (which : Kind) → IsKind (later_kind which)
-later_law which = record {
-  edited = λ o e bytes fine accepted small. absurd cc;
-  idle = λ o e bytes fine none. absurd cc;
-  in_place = λ o e bytes fine small room. absurd cc;
-  no_larger = λ o e bytes fine small. absurd cc;
-  by_effect = λ o e all is. record { same_file = refl; same_size = refl; same_room = refl; same_patches = refl };
-  lawful = λ o bytes fine. absurd cc;
-}
-
 laws : (w : Option Kind) → IsKind (model_of w)
-laws (Some Avi) = later_law Avi
-laws (Some Mov) = later_law Mov
+laws (Some Avi) = is_avi_kind
+laws (Some Mov) = is_mov_kind
 laws (Some Wave) = wave_law
 laws (Some Rf64) = wave_law
 laws (Some Bw64) = wave_law
@@ -49,8 +44,8 @@ law o = of_kind IsKind o (kind_at o) refl (laws (kind_at o))
 
 -- ---- a WAVE file
 
--- what holds of WAVE files holds of each file whose kind isn't read later
-wave_model : (P : KindModel → Type 0) (w : Option Kind) → is_later w ≡ false → P wave_kind → P (model_of w)
+-- what holds of WAVE files holds of each file that is read as these are
+wave_model : (P : KindModel → Type 0) (w : Option Kind) → is_sound w ≡ true → P wave_kind → P (model_of w)
 wave_model P None h p = p
 wave_model P (Some Wave) h p = p
 wave_model P (Some Rf64) h p = p
@@ -58,33 +53,86 @@ wave_model P (Some Bw64) h p = p
 wave_model P (Some Avi) h p = absurd cc
 wave_model P (Some Mov) h p = absurd cc
 
-pub of_wave : (P : KindModel → Type 0) (o : List ℕ) → is_later (kind_at o) ≡ false → P wave_kind → P (model_in o)
+pub of_wave : (P : KindModel → Type 0) (o : List ℕ) → is_sound (kind_at o) ≡ true → P wave_kind → P (model_in o)
 of_wave P o now p = of_kind P o (kind_at o) refl (wave_model P (kind_at o) now p)
 
--- a file that is refused as one of its kind is
-pub later_model : (P : KindModel → Type 0) (o : List ℕ) (w : Option Kind) → kind_at o ≡ w → is_later w ≡ true → ((which : Kind) → P (later_kind which)) → P (model_in o)
-later_model P o w at is p = of_kind P o w at (go w is)
+-- what is read neither as an AVI file nor as a movie is read as WAVE files are
+pub sound_by : (w : Option Kind) → is_avi w ≡ false → is_mov w ≡ false → is_sound w ≡ true
+sound_by None h j = refl
+sound_by (Some Wave) h j = refl
+sound_by (Some Rf64) h j = refl
+sound_by (Some Bw64) h j = refl
+sound_by (Some Avi) h j = absurd cc
+sound_by (Some Mov) h j = absurd cc
+
+-- what holds of AVI files holds of each file of their kind
+pub of_avi : (P : KindModel → Type 0) (o : List ℕ) → kind_at o ≡ Some Avi → P avi_kind → P (model_in o)
+of_avi P o is p = of_kind P o (Some Avi) is p
+
+pub avi_by : (w : Option Kind) → is_avi w ≡ true → w ≡ Some Avi
+avi_by None h = absurd cc
+avi_by (Some Wave) h = absurd cc
+avi_by (Some Rf64) h = absurd cc
+avi_by (Some Bw64) h = absurd cc
+avi_by (Some Avi) h = refl
+avi_by (Some Mov) h = absurd cc
+
+-- what holds of movies holds of each file of their kind
+pub of_mov : (P : KindModel → Type 0) (o : List ℕ) → kind_at o ≡ Some Mov → P mov_kind → P (model_in o)
+of_mov P o is p = of_kind P o (Some Mov) is p
+
+pub mov_by : (w : Option Kind) → is_mov w ≡ true → w ≡ Some Mov
+mov_by None h = absurd cc
+mov_by (Some Wave) h = absurd cc
+mov_by (Some Rf64) h = absurd cc
+mov_by (Some Bw64) h = absurd cc
+mov_by (Some Avi) h = absurd cc
+mov_by (Some Mov) h = refl
+
+-- ---- why a file isn't edited
+
+-- a file that is refused isn't edited
+pub refused_too : (o : List ℕ) (w : Why) → (model_in o).why o ≡ Some w → edit_why o ≡ Some w
+unfolding edit_why
+refused_too o w is = ap (λ (x : Option Why). or_else x (unbuilt (kind_at o))) is
+
+-- a supported file is edited where edits of its kind are built
+pub edited_by : (o : List ℕ) (w : Option Kind) → (model_in o).why o ≡ None → kind_at o ≡ w → edit_why o ≡ unbuilt w
+unfolding edit_why
+edited_by o w fine is = ap (λ (x : Option Why). or_else x (unbuilt (kind_at o))) fine ∙ ap unbuilt is
+
+-- a file that can be edited is supported
+pub fine_too : (o : List ℕ) → edit_why o ≡ None → (model_in o).why o ≡ None
+unfolding edit_why
+fine_too o fine = go ((model_in o).why o) fine
   where
-    go : (v : Option Kind) → is_later v ≡ true → P (model_of v)
-    go (Some Avi) h = p Avi
-    go (Some Mov) h = p Mov
-    go None h = absurd cc
-    go (Some Wave) h = absurd cc
-    go (Some Rf64) h = absurd cc
-    go (Some Bw64) h = absurd cc
+    go : (x : Option Why) → or_else x (unbuilt (kind_at o)) ≡ None → x ≡ None
+    go None h = refl
+    go (Some w) h = absurd cc
+
+unbuilt_sound : (w : Option Kind) → is_sound w ≡ true → unbuilt w ≡ None
+unbuilt_sound None h = refl
+unbuilt_sound (Some Wave) h = refl
+unbuilt_sound (Some Rf64) h = refl
+unbuilt_sound (Some Bw64) h = refl
+unbuilt_sound (Some Avi) h = absurd cc
+unbuilt_sound (Some Mov) h = absurd cc
+
+pub edits_sound : (o : List ℕ) → (model_in o).why o ≡ None → is_sound (kind_at o) ≡ true → edit_why o ≡ None
+edits_sound o fine is = edited_by o (kind_at o) fine refl ∙ unbuilt_sound (kind_at o) is
 
 -- a supported WAVE file is of the kind of WAVE files
 none_first : (t : Bool) (x : Why) (rest : Option Why) → or_else (first ((not t, x) ∷ [])) rest ≡ None → t ≡ true
 none_first true x rest h = refl
 none_first false x rest h = absurd cc
 
-early : (t u v : Bool) (rest : Option Kind) → ((t || u) || v) ≡ true → is_later (cond t (Some Wave) (cond u (Some Rf64) (cond v (Some Bw64) rest))) ≡ false
+early : (t u v : Bool) (rest : Option Kind) → ((t || u) || v) ≡ true → is_sound (cond t (Some Wave) (cond u (Some Rf64) (cond v (Some Bw64) rest))) ≡ true
 early true u v rest h = refl
 early false true v rest h = refl
 early false false true rest h = refl
 early false false false rest h = absurd cc
 
-pub is_read : (o : List ℕ) → why o ≡ None → is_later (kind_at o) ≡ false
+pub is_read : (o : List ℕ) → why o ≡ None → is_sound (kind_at o) ≡ true
 unfolding why
 is_read o fine = early (is_form_of (codes "RIFF") (codes "WAVE") b) (is_form_of (codes "RF64") (codes "WAVE") b) (is_form_of (codes "BW64") (codes "WAVE") b) _ found
   where
@@ -115,7 +163,3 @@ is_read o fine = early (is_form_of (codes "RIFF") (codes "WAVE") b) (is_form_of 
 
     found : ((is_form_of (codes "RIFF") (codes "WAVE") b || is_form_of (codes "RF64") (codes "WAVE") b) || is_form_of (codes "BW64") (codes "WAVE") b) ≡ true
     found = any (bytes_eq (take 4 o) (codes "RIFF")) (bytes_eq (take 4 o) (codes "RF64")) (bytes_eq (take 4 o) (codes "BW64")) _ _ _ (form (codes "RIFF")) (form (codes "RF64")) (form (codes "BW64")) parts.0
-
--- a file that has a map is supported
-pub supported_by : (o : List ℕ) (m : FileMap) → Maps o m → why o ≡ None
-supported_by o (map.Wave m) h = h.supported

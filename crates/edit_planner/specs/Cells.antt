@@ -27,7 +27,8 @@ use Rattle.edit_planner.specs.declared.cells.Content.TheVariants.{Kept, Body, Li
 abbrev pub list_in : Chunk → InfoList
 list_in c = record { items = map item_of (list_run c).chunks; rest = (list_run c).left }
 
--- a chunk that is kept: a list by its items, `bext` by its body, and any other by its identifier and what it is to an edit
+-- a chunk that is kept: a list by its items, `bext` by its body, and any other by its identifier and what it is to an
+-- edit
 abbrev pub content_of : ℕ → Chunk → Content
 content_of at c =
     if is_info c then Listed (list_in c)
@@ -38,11 +39,16 @@ content_of at c =
 abbrev pub part_count : Chunk → ℕ
 part_count c = length (parts_of c)
 
+-- these chunks are to stand there, with the parts that they count for
+abbrev pub edited_as : List Chunk → Content
+edited_as now = Edited (spell_all now) (parts_in part_count now)
+
 -- a cell at a place of the file
 abbrev pub told : ℕ → Cell → CellAt
 told at (kept c) = record { at = at; next = at + length (spell c); lacks_pad = lacks_pad c; content = content_of at c }
 told at (gap c) = record { at = at; next = at + length (spell c); lacks_pad = lacks_pad c; content = Gap }
-told at (edited old now) = record { at = at; next = at + length (spell_all old); lacks_pad = false; content = Edited (spell_all now) (parts_in part_count now) }
+told at (edited old now) =
+    record { at = at; next = at + length (spell_all old); lacks_pad = false; content = edited_as now }
 
 -- cells that follow each other from a place on
 abbrev pub told_row : ℕ → List Cell → List CellAt
@@ -71,10 +77,12 @@ Unedited (edited old now ∷ xs) = ⊥
 
 -- ---- what is asked of changes
 
--- What a field can have: of `bext` bytes that fill its range, and of a coding history at most 1 MiB; of a whole chunk at most 16 MiB.
+-- What a field can have: of `bext` bytes that fill its range, and of a coding history at most 1 MiB; of a whole chunk
+-- at most 16 MiB.
 abbrev pub IsFine : FieldName → Option Value → Type 0
 IsFine (name.Bext field) None = ⊥
-IsFine (name.Bext field) (Some v) = (v.lang ≡ 0) × FillsRange field v.raw × (bext_row field ≡ 14 → length v.raw ≤ 2 ^ 20)
+IsFine (name.Bext field) (Some v) =
+    (v.lang ≡ 0) × FillsRange field v.raw × (bext_row field ≡ 14 → length v.raw ≤ 2 ^ 20)
 IsFine (name.Info id) None = Unit {0}
 IsFine (name.Info id) (Some v) = v.lang ≡ 0
 IsFine (name.Whole id) None = Unit {0}
@@ -87,8 +95,8 @@ AreFine changes = AllByRecursion (λ c. IsFine c.name c.value) changes
 
 -- ---- what is asked of cells
 
--- A body of `bext` has at least 602 bytes and at most 16 MiB; items of a list have identifiers of four bytes, and what is behind
--- them is shorter than a header.
+-- A body of `bext` has at least 602 bytes and at most 16 MiB; items of a list have identifiers of four bytes, and what
+-- is behind them is shorter than a header.
 abbrev pub IsReadable : Content → Type 0
 IsReadable (Body body) = (602 ≤ length body) × (length body ≤ 2 ^ 24)
 IsReadable (Listed list) = AllByRecursion (λ i. length i.id.0 ≡ 4) list.items × (length list.rest < 8)

@@ -4,15 +4,14 @@ use Rattle.std.specs.declared.result.Result.TheVariants.{Ok, Err}
 use Rattle.std.specs.List.{AllByRecursion}
 use Rattle.part_tree.specs.Letters.{four}
 use Rattle.part_tree.specs.Names.{info_ids}
-use Rattle.container_model.specs.Chunk.{Chunk, spell_all}
+use Rattle.container_model.specs.Chunk.{Chunk}
 use Rattle.container_model.specs.Deep.{Token}
 use Rattle.container_model.specs.Items.{Item, has_mark, put_all}
 use Rattle.carrier_model.specs.Info.{info_items, list_of, one_of}
 use Rattle.part_tree.specs.Large.{Size, limited, first_above}
 use Rattle.carrier_model.specs.Lists.{some_hold, first_holder, sets_some}
 use Rattle.wave_model.specs.Fields.{is_info}
-use Rattle.unit_plan.specs.Shapes.{parts_in}
-use Rattle.edit_planner.specs.Cells.{part_count}
+use Rattle.edit_planner.specs.Cells.{edited_as}
 use Rattle.info_list.specs.Info.{chunks_of, tokens_of}
 use Rattle.info_list.specs.declared.InfoList.{InfoList}
 use Rattle.edit_planner.specs.declared.cells.CellAt.{CellAt}
@@ -75,7 +74,8 @@ changed_list e list = list_of (put_all info_items e (chunks_of list)) list.rest
 
 -- what becomes of a cell that holds the list of a number; one that holds no list stays
 abbrev pub list_edited_by : List Homed → ℕ → CellAt → Content → CellAt
-list_edited_by is n x (Listed list) = if concerned n (tokens_of list) is then edited_at x (changed_list (part_in n is) list ∷ []) else x
+list_edited_by is n x (Listed list) =
+    if concerned n (tokens_of list) is then edited_at x (changed_list (part_in n is) list ∷ []) else x
 list_edited_by is n x Gap = x
 list_edited_by is n x (Kept id role) = x
 list_edited_by is n x (Body body) = x
@@ -89,7 +89,9 @@ list_edited is n x = list_edited_by is n x x.content
 
 -- the length of a list that is edited
 abbrev pub size_in : List Homed → ℕ → Content → List Size
-size_in is n (Listed list) = if concerned n (tokens_of list) is then limited (2 ^ 24) (length (changed_list (part_in n is) list).body) ∷ [] else []
+size_in is n (Listed list) =
+    if concerned n (tokens_of list) is then limited (2 ^ 24) (length (changed_list (part_in n is) list).body) ∷ []
+    else []
 size_in is n Gap = []
 size_in is n (Kept id role) = []
 size_in is n (Body body) = []
@@ -120,7 +122,7 @@ fresh_list e = list_of (put_all info_items e []) []
 -- a new list where an edit sets a value, and none where it sets none
 abbrev pub IsNewList : List (Item (List ℕ)) → Option Content → Type 0
 IsNewList e None = sets_some e ≡ false
-IsNewList e (Some content) = (sets_some e ≡ true) × (content ≡ Edited (spell_all (fresh_list e ∷ [])) (parts_in part_count (fresh_list e ∷ [])))
+IsNewList e (Some content) = (sets_some e ≡ true) × (content ≡ edited_as (fresh_list e ∷ []))
 
 -- the length of a new list, where there is one
 abbrev pub new_sizes : List (Item (List ℕ)) → List Size

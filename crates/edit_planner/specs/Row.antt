@@ -6,13 +6,12 @@ use Rattle.part_tree.specs.declared.part.Role.TheVariants.{Whole}
 use Rattle.part_tree.specs.declared.field.Value.{Value}
 use Rattle.field_model.specs.Body.{edited_bext}
 use Rattle.field_model.specs.Update.{RawItem}
-use Rattle.container_model.specs.Chunk.{Chunk, spell_all}
+use Rattle.container_model.specs.Chunk.{Chunk}
 use Rattle.carrier_model.specs.Info.{made}
 use Rattle.edit_planner.specs.declared.cells.CellAt.{CellAt}
 use Rattle.edit_planner.specs.declared.cells.Content.{Content}
 use Rattle.edit_planner.specs.declared.cells.Content.TheVariants.{Kept, Body, Listed, Gap, Edited}
-use Rattle.unit_plan.specs.Shapes.{parts_in}
-use Rattle.edit_planner.specs.Cells.{part_count}
+use Rattle.edit_planner.specs.Cells.{edited_as}
 
 -- ---- what a cell holds
 
@@ -80,7 +79,7 @@ count_row q (x ∷ xs) = if q x.content then count_row q xs + 1 else count_row q
 
 -- these chunks are to stand in a cell
 abbrev pub edited_at : CellAt → List Chunk → CellAt
-edited_at x now = record { at = x.at; next = x.next; lacks_pad = false; content = Edited (spell_all now) (parts_in part_count now) }
+edited_at x now = record { at = x.at; next = x.next; lacks_pad = false; content = edited_as now }
 
 -- ---- a new cell
 
@@ -88,14 +87,16 @@ edited_at x now = record { at = x.at; next = x.next; lacks_pad = false; content 
 abbrev pub new_at : Content → ℕ → CellAt
 new_at content at = record { at = at; next = at; lacks_pad = false; content = content }
 
--- whether a new cell goes before this one: it is `fmt `, where it is to stand before that, or only padding stands from here on
+-- whether a new cell goes before this one: it is `fmt `, where it is to stand before that, or only padding stands from
+-- here on
 abbrev pub stops : Bool → CellAt → List CellAt → Bool
 stops before_format x xs = (before_format && is_format x.content) || (is_gap x.content && all_gaps xs)
 
 -- A new cell goes before `fmt `, where it is to, and else behind all but padding.
 abbrev pub put_new : Bool → (ℕ → CellAt) → ℕ → List CellAt → List CellAt
 put_new before_format new from [] = new from ∷ []
-put_new before_format new from (x ∷ xs) = if stops before_format x xs then new from ∷ (x ∷ xs) else x ∷ put_new before_format new x.next xs
+put_new before_format new from (x ∷ xs) =
+    if stops before_format x xs then new from ∷ (x ∷ xs) else x ∷ put_new before_format new x.next xs
 
 -- its number in the row
 abbrev pub place_for : Bool → List CellAt → ℕ
@@ -105,7 +106,9 @@ place_for before_format (x ∷ xs) = if stops before_format x xs then 0 else pla
 -- the same as a loop counts it: by the number of the cell and of the one behind the last that is no padding
 abbrev pub place_from : Bool → ℕ → ℕ → List CellAt → ℕ
 place_from before_format k last [] = last
-place_from before_format k last (x ∷ xs) = if before_format && is_format x.content then k else place_from before_format (k + 1) (if is_gap x.content then last else k + 1) xs
+place_from before_format k last (x ∷ xs) =
+    if before_format && is_format x.content then k
+    else place_from before_format (k + 1) (if is_gap x.content then last else k + 1) xs
 
 -- where the k-th cell begins, in a row from a place on
 abbrev pub starts_at : ℕ → ℕ → List CellAt → ℕ

@@ -53,4 +53,10 @@ what_of (Edited now parts) = Changes now
 
 -- the place of a cell
 abbrev pub placed : CellAt → Place
-placed x = record { at = x.at; next = x.next; lacks_pad = x.lacks_pad; parts = count_of x.content; what = what_of x.content }
+placed x = record {
+  at = x.at;
+  next = x.next;
+  lacks_pad = x.lacks_pad;
+  parts = count_of x.content;
+  what = what_of x.content;
+}

@@ -1,17 +1,16 @@
 // The chunk `bext` (EBU Tech 3285).
 ghost use Rattle.std.specs.Prelude.{◌≡◌, ◌≤◌, ◌<◌, ◌+◌, ◌^◌, ◌∷◌, [], ℕ, List, IfOk, OnOk, codes, length, Bool, true, if◌then◌else◌};
 ghost use Rattle.std.specs.List.{flat_map};
-ghost use Rattle.container_model.specs.Chunk.{Chunk, spell, spell_all};
+ghost use Rattle.container_model.specs.Chunk.{Chunk, spell};
 ghost use Rattle.container_model.specs.Units.{Cell, live};
 ghost use Rattle.carrier_model.specs.Info.{made};
 ghost use Rattle.field_model.specs.Bext.{new_body};
 ghost use Rattle.field_model.specs.Body.{edited_bext};
-ghost use Rattle.unit_plan.specs.Shapes.{parts_in};
 ghost use Rattle.carrier_model.specs.Cells.{acted_cells};
 ghost use Rattle.field_model.specs.Update.{is_bext as is_range};
 ghost use Rattle.bext_fields.specs.Change.{raw_items_of};
 ghost use Rattle.wave_model.specs.Carry.{bext_act, edits_bext};
-ghost use Rattle.edit_planner.specs.Cells.{AreFine, AreReadable, Follow, IsReadable, Unedited, part_count, told_row};
+ghost use Rattle.edit_planner.specs.Cells.{AreFine, AreReadable, Follow, IsReadable, Unedited, edited_as, told_row};
 ghost use Rattle.edit_planner.specs.Row.{body_edited, changed_row, count_row, is_body as holds_body};
 ghost use Rattle.edit_planner.specs.declared.cells.CellAt.{CellAt};
 
@@ -46,7 +45,8 @@ fn edited_content(alloc: Global, body: &[u8], changes: &[RawChange]) -> Result<C
     requires long { 602 ≤ length body.now }
     requires small { length body.now ≤ 2 ^ 24 }
     requires fine { AreFine changes.now }
-    ensures { (now : List Chunk) → now ≡ made (codes "bext") (edited_bext (raw_items_of changes.now) body.now) ∷ [] → IfOk result (λ content. content ≡ Content.Edited (spell_all now) (parts_in part_count now)) }
+    ensures { (now : List Chunk) → now ≡ made (codes "bext") (edited_bext (raw_items_of changes.now) body.now) ∷ []
+        → IfOk result (λ content. content ≡ edited_as now) }
 {
     let edited = edited_body(alloc, body, changes)?;
     let now = spell_chunk(alloc, FourCc(*b"bext"), edited.as_slice())?;
@@ -63,7 +63,8 @@ fn body_at(
     requires readable { IsReadable cell.old.content }
     requires fine { AreFine changes.now }
     requires few { count + 1 < 2 ^ 64 }
-    ensures cell { OnOk result (cell.new ≡ (if holds_body cell.old.content then body_edited (raw_items_of changes.now) cell.old else cell.old)) }
+    ensures cell { OnOk result (cell.new
+        ≡ (if holds_body cell.old.content then body_edited (raw_items_of changes.now) cell.old else cell.old)) }
     ensures count { IfOk result (λ n. n ≡ (if holds_body cell.old.content then count + 1 else count)) }
 {
     let Content::Body(body) = &cell.content else {
@@ -82,7 +83,8 @@ fn change_bodies(
 ) -> Result<usize, NoMemory>
     requires readable { AreReadable cells.old.items }
     requires fine { AreFine changes.now }
-    ensures cells { OnOk result (cells.new.items ≡ changed_row holds_body (λ n x. body_edited (raw_items_of changes.now) x) 0 cells.old.items) }
+    ensures cells { OnOk result (cells.new.items
+        ≡ changed_row holds_body (λ n x. body_edited (raw_items_of changes.now) x) 0 cells.old.items) }
     ensures count { IfOk result (λ n. n ≡ count_row holds_body cells.old.items) }
 {
     let mut count = 0;
@@ -95,7 +97,8 @@ fn change_bodies(
 // The chunk of a new body with the changes.
 fn new_chunk(alloc: Global, changes: &[RawChange]) -> Result<Bytes, NoMemory>
     requires fine { AreFine changes.now }
-    ensures { IfOk result (λ bytes. bytes ≡ spell (made (codes "bext") (edited_bext (raw_items_of changes.now) new_body))) }
+    ensures { IfOk result (λ bytes. bytes
+        ≡ spell (made (codes "bext") (edited_bext (raw_items_of changes.now) new_body))) }
 {
     let body = new_edited_body(alloc, changes)?;
     spell_chunk(alloc, FourCc(*b"bext"), body.as_slice())

@@ -25,8 +25,8 @@ pub enum Content {
     Edited { now: Bytes, parts: u64 },
 }
 
-/// A cell from the byte `at` of the file up to the byte `next`. `lacks_pad` tells whether a chunk stands there that lacks its
-/// pad byte.
+/// A cell from the byte `at` of the file up to the byte `next`. `lacks_pad` tells whether a chunk stands there that
+/// lacks its pad byte.
 #[derive(Debug, Drop)]
 pub struct CellAt {
     pub at: u64,
@@ -90,8 +90,8 @@ fn is_field(role: Role) -> bool
     }
 }
 
-// The number of the cell behind the last one that is no padding, as far as was seen: that of the one behind this cell, or else
-// the earlier one.
+// The number of the cell behind the last one that is no padding, as far as was seen: that of the one behind this cell,
+// or else the earlier one.
 fn behind_last(cell: &CellAt, last: usize, next: usize) -> usize
     ensures { result ≡ (if holds_gap cell.now.content then last else next) }
 {
@@ -126,7 +126,8 @@ fn start_of(cells: &[CellAt], from: u64, k: usize) -> u64
     cells[k - 1].next
 }
 
-/// Puts a new cell into a row that begins at the byte `from`: before `fmt `, where it is to, and else behind all but padding.
+/// Puts a new cell into a row that begins at the byte `from`: before `fmt `, where it is to, and else behind all but
+/// padding.
 pub fn put_cell(
     cells: &mut Vec<CellAt>,
     from: u64,

@@ -16,8 +16,8 @@ use crate::wholes::edit_wholes;
 use bext_fields::RawChange;
 use std::alloc::Global;
 
-/// Makes the changes in a row of cells that begins at the byte `from`: those of `bext`, of the lists of INFO items, and of the
-/// chunks that are fields as a whole.
+/// Makes the changes in a row of cells that begins at the byte `from`: those of `bext`, of the lists of INFO items,
+/// and of the chunks that are fields as a whole.
 pub fn edit_cells(
     cells: &mut Vec<CellAt>,
     alloc: Global,
@@ -26,8 +26,10 @@ pub fn edit_cells(
 ) -> Result<(), ListsFault>
     requires readable { AreReadable cells.old.items }
     requires fine { AreFine changes.now }
-    ensures told { OnOk result ((xs : List Cell) → Unedited xs → cells.old.items ≡ told_row from xs → cells.new.items ≡ told_row from (carried (steps (raw_items_of changes.now)) xs)) }
-    ensures large { (xs : List Cell) → Unedited xs → SmallLists (flat_map live xs) → cells.old.items ≡ told_row from xs → TellsLarge (lengths (bodies is_info (flat_map live (carried (steps (raw_items_of changes.now)) xs)))) result }
+    ensures told { OnOk result ((xs : List Cell) → Unedited xs → cells.old.items ≡ told_row from xs
+        → cells.new.items ≡ told_row from (carried (steps (raw_items_of changes.now)) xs)) }
+    ensures large { (xs : List Cell) → Unedited xs → SmallLists (flat_map live xs) → cells.old.items ≡ told_row from xs
+        → TellsLarge (lengths (bodies is_info (flat_map live (carried (steps (raw_items_of changes.now)) xs)))) result }
     ensures follow { OnOk result ((end : ℕ) → Follow from cells.old.items end → Follow from cells.new.items end) }
 {
     match edit_bext(cells, alloc, from, changes) {

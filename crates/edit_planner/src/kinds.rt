@@ -1,5 +1,5 @@
 // The kind of a file, and its map.
-ghost use Rattle.std.specs.Prelude.{◌≡◌, ℕ, List, IfOk};
+ghost use Rattle.std.specs.Prelude.{◌≡◌, ℕ, List, None, Some, IfErr, IfOk};
 ghost use Rattle.me_disk.specs.Causes.{Rose};
 ghost use Rattle.me_disk.specs.Holds.{Holds};
 ghost use Rattle.me_disk.specs.Steps.{HasCause, ReadsOnly};
@@ -7,14 +7,18 @@ ghost use Rattle.part_tree.specs.Fields.{IsMap};
 ghost use Rattle.field_model.specs.KindReads.{ReadsKind};
 ghost use Rattle.edit_planner.specs.Kinds.{kind_at, model_in};
 ghost use Rattle.edit_planner.specs.Kinds as spec;
-ghost use Rattle.edit_planner.specs.Facts.{IsRead};
-ghost use Rattle.edit_planner.specs.Plan.{Maps, SoundMap};
+ghost use Rattle.edit_planner.specs.Facts.{IsRead, IsUnbuilt, RefusesEdit};
+ghost use Rattle.edit_planner.specs.Plan.{Maps, SoundMap, unbuilt_in};
 
 use crate::plans::FileMap;
+use avi_file::{AviMap, read_avi};
 use me_disk::{Depot, DepotFault, Slot};
-use part_tree::{Kind, ReadFault, Why, kind_of};
+use mov_file::{MovMap, read_mov};
+use part_tree::{Kind, ReadFault, kind_of};
 use std::alloc::Global;
 use wave_file::{WaveMap, read_wave};
+
+const MOST_STREAMS: usize = 0xFFFF_FFFF;
 
 // The kind of a file, by its first bytes.
 fn read_kind<D: Depot>(depot: &mut D) -> Result<Option<Kind>, DepotFault>
@@ -29,13 +33,73 @@ fn read_kind<D: Depot>(depot: &mut D) -> Result<Option<Kind>, DepotFault>
     Ok(kind_of(&first[..known]))
 }
 
-// Whether a kind isn't built yet.
-fn is_later(kind: Option<Kind>) -> bool
-    ensures { result ≡ spec.is_later kind }
+// Whether a kind is that of AVI files.
+fn is_avi(kind: Option<Kind>) -> bool
+    ensures { result ≡ spec.is_avi kind }
 {
     match kind {
-        Some(Kind::Avi | Kind::Mov) => true,
-        Some(Kind::Wave | Kind::Rf64 | Kind::Bw64) | None => false,
+        Some(Kind::Avi) => true,
+        Some(Kind::Wave | Kind::Rf64 | Kind::Bw64 | Kind::Mov) | None => false,
+    }
+}
+
+// Whether a kind is that of movies.
+fn is_mov(kind: Option<Kind>) -> bool
+    ensures { result ≡ spec.is_mov kind }
+{
+    match kind {
+        Some(Kind::Mov) => true,
+        Some(Kind::Wave | Kind::Rf64 | Kind::Bw64 | Kind::Avi) | None => false,
+    }
+}
+
+// A map of an AVI file as that of a file of some kind.
+fn of_avi(map: AviMap) -> FileMap
+    ensures same { result ≡ FileMap.Avi map }
+    ensures ordered { IsMap map.fields }
+{
+    FileMap::Avi(map)
+}
+
+// The map of an AVI file. Its streams are parts, of which it has at most 65,536; so their number is never past 32 bits.
+fn read_listed<D: Depot>(alloc: Global, depot: &mut D) -> Result<FileMap, ReadFault>
+    requires { (o : List ℕ) → Holds (D.disk depot.old) o → kind_at o ≡ Some Kind.Avi }
+    ensures file { (o : List ℕ) → Holds (D.disk depot.old) o → ReadsKind (model_in o) Maps o result }
+    ensures sound { IfOk result (λ map. SoundMap map) }
+    ensures tells { IfOk result (λ map. IsRead (D.disk depot.old) map) }
+    ensures reads { ReadsOnly (D.disk depot.old) (D.disk depot.new) }
+    ensures cause { result ≡ Err ReadFault.Depot → Rose (D.disk depot.old).faults (D.disk depot.new).faults }
+{
+    let map = match read_avi(alloc, depot) {
+        Err(fault) => return Err(fault),
+        Ok(map) => map,
+    };
+    if map.streams.len() > MOST_STREAMS {
+        return Err(ReadFault::Memory);
+    }
+    Ok(of_avi(map))
+}
+
+// A map of a movie as that of a file of some kind.
+fn of_mov(map: MovMap) -> FileMap
+    ensures same { result ≡ FileMap.Mov map }
+    ensures ordered { IsMap map.fields }
+{
+    FileMap::Mov(map)
+}
+
+// The map of a movie.
+fn read_movie<D: Depot>(alloc: Global, depot: &mut D) -> Result<FileMap, ReadFault>
+    requires { (o : List ℕ) → Holds (D.disk depot.old) o → kind_at o ≡ Some Kind.Mov }
+    ensures file { (o : List ℕ) → Holds (D.disk depot.old) o → ReadsKind (model_in o) Maps o result }
+    ensures sound { IfOk result (λ map. SoundMap map) }
+    ensures tells { IfOk result (λ map. IsRead (D.disk depot.old) map) }
+    ensures reads { ReadsOnly (D.disk depot.old) (D.disk depot.new) }
+    ensures cause { result ≡ Err ReadFault.Depot → Rose (D.disk depot.old).faults (D.disk depot.new).faults }
+{
+    match read_mov(alloc, depot) {
+        Err(fault) => Err(fault),
+        Ok(map) => Ok(of_mov(map)),
     }
 }
 
@@ -47,8 +111,8 @@ fn of_wave(map: WaveMap) -> FileMap
     FileMap::Wave(map)
 }
 
-/// The map of a file, whatever its kind, or the first reason for which it is refused. The depot is only read. `Depot` only where
-/// the count of the depot's faults rose.
+/// The map of a file, whatever its kind, or the first reason for which it is refused. The depot is only read. `Depot`
+/// only where the count of the depot's faults rose.
 pub fn read<D: Depot>(alloc: Global, depot: &mut D) -> Result<FileMap, ReadFault>
     ensures file { (o : List ℕ) → Holds (D.disk depot.old) o → ReadsKind (model_in o) Maps o result }
     ensures sound { IfOk result (λ map. SoundMap map) }
@@ -60,11 +124,41 @@ pub fn read<D: Depot>(alloc: Global, depot: &mut D) -> Result<FileMap, ReadFault
         Err(_) => return Err(ReadFault::Depot),
         Ok(kind) => kind,
     };
-    if is_later(kind) {
-        return Err(ReadFault::Why(Why::NotBuilt));
+    if is_avi(kind) {
+        return read_listed(alloc, depot);
+    }
+    if is_mov(kind) {
+        return read_movie(alloc, depot);
     }
     match read_wave(alloc, depot) {
         Err(fault) => Err(fault),
         Ok(map) => Ok(of_wave(map)),
+    }
+}
+
+// A map of a file that is to be edited, where edits of its kind are built.
+fn to_edit(map: FileMap) -> Result<FileMap, ReadFault>
+    ensures kept { IfOk result (λ kept. kept ≡ map) }
+    ensures built { IfOk result (λ kept. unbuilt_in kept ≡ None) }
+    ensures why { IfErr result (λ fault. IsUnbuilt map fault) }
+{
+    match map.unbuilt() {
+        Some(why) => Err(ReadFault::Why(why)),
+        None => Ok(map),
+    }
+}
+
+/// The map of a file that is to be edited, or the first reason against that: the first one for which the file is refused, and else
+/// that edits of its kind aren't built yet. The depot is only read. `Depot` only where the count of the depot's faults rose.
+pub fn read_to_edit<D: Depot>(alloc: Global, depot: &mut D) -> Result<FileMap, ReadFault>
+    ensures file { (o : List ℕ) → Holds (D.disk depot.old) o → IfErr result (RefusesEdit o) }
+    ensures tells { IfOk result (λ map. IsRead (D.disk depot.old) map) }
+    ensures built { IfOk result (λ map. unbuilt_in map ≡ None) }
+    ensures reads { ReadsOnly (D.disk depot.old) (D.disk depot.new) }
+    ensures cause { result ≡ Err ReadFault.Depot → Rose (D.disk depot.old).faults (D.disk depot.new).faults }
+{
+    match read(alloc, depot) {
+        Err(fault) => Err(fault),
+        Ok(map) => to_edit(map),
     }
 }

@@ -20,13 +20,13 @@ mod tests;
 mod wave;
 mod wholes;
 
-pub use kinds::read;
+pub use kinds::{read, read_to_edit};
 pub use part_tree::PlanFault;
 pub use plans::{FileMap, plan};
 pub use wave::{PlaceFault, PlaceRow, places_of};
 
-/// What a file is read as, by its first bytes, is always a kind of files: an accepted edit that isn't too large makes the old
-/// file edited.
+/// What a file is read as, by its first bytes, is always a kind of files: an accepted edit that isn't too large makes
+/// the old file edited.
 pub fn each_file_is_of_a_kind()
     ensures { (o : List ℕ) → IsKind (model_in o) }
 {}

@@ -1,21 +1,20 @@
 // Lists of INFO items.
 ghost use Rattle.std.specs.Prelude.{◌≡◌, ◌≤◌, ◌<◌, ◌+◌, ◌^◌, ◌++◌, ◌∷◌, [], ℕ, List, IfOk, OnOk, IfErr, length, Bool, true, None, if◌then◌else◌, option_map, ◌==◌};
 ghost use Rattle.std.specs.List.{flat_map, AllByRecursion};
-ghost use Rattle.container_model.specs.Chunk.{Chunk, spell_all};
+ghost use Rattle.container_model.specs.Chunk.{Chunk};
 ghost use Rattle.container_model.specs.Units.{Cell, live};
 ghost use Rattle.container_model.specs.Deep.{Token};
 ghost use Rattle.container_model.specs.Items.{has_mark, put_all};
-ghost use Rattle.carrier_model.specs.Cells.{acted, acted_cells, never};
+ghost use Rattle.carrier_model.specs.Cells.{never};
 ghost use Rattle.carrier_model.specs.Info.{info, info_items, list_of};
 ghost use Rattle.part_tree.specs.Large.{limited};
-ghost use Rattle.carrier_model.specs.Lists.{home, lists_act, sets_some, some_hold};
+ghost use Rattle.carrier_model.specs.Lists.{edit_list_cells, edit_lists as edited_lists, home, sets_some, some_hold};
 ghost use Rattle.bext_fields.specs.Change.{raw_items_of};
 ghost use Rattle.info_list.specs.Changes.{changes_of};
 ghost use Rattle.info_list.specs.Info.{chunks_of, tokens_of};
 ghost use Rattle.wave_model.specs.Fields.{bodies, is_info};
 ghost use Rattle.wave_model.specs.Carry.{info_item, info_part, raw};
-ghost use Rattle.unit_plan.specs.Shapes.{parts_in};
-ghost use Rattle.edit_planner.specs.Cells.{AreReadable, Follow, IsReadable, Unmet, part_count, told_row};
+ghost use Rattle.edit_planner.specs.Cells.{AreReadable, Follow, IsReadable, Unmet, edited_as, told_row};
 ghost use Rattle.edit_planner.specs.Row.{changed_row, count_row, is_list as holds_list};
 ghost use Rattle.edit_planner.specs.Lists.{AreInfo, IsLarge, IsNewList, SmallLists, TellsLarge, new_sizes, all_marks, changed_list, concerned, home_from, homed_as, homed_of, list_edited, marks_in, lengths, part_in, size_in, sizes_in};
 ghost use Rattle.edit_planner.specs.declared.cells.CellAt.{CellAt};
@@ -94,7 +93,8 @@ fn put_homed(
     cells: &[CellAt],
     change: &RawChange,
 ) -> Result<(), NoMemory>
-    ensures { OnOk result (homed.new.items ≡ homed.old.items ++ homed_of (home (all_marks cells.now)) (info_item change.now.name change.now.value)) }
+    ensures { OnOk result (homed.new.items
+        ≡ homed.old.items ++ homed_of (home (all_marks cells.now)) (info_item change.now.name change.now.value)) }
 {
     let FieldName::Info(id) = &change.name else {
         return Ok(());
@@ -120,7 +120,8 @@ fn homed_changes(
     cells: &[CellAt],
     changes: &[RawChange],
 ) -> Result<Vec<Homed>, NoMemory>
-    ensures { IfOk result (λ homed. homed.items ≡ homed_of (home (all_marks cells.now)) (info_part (raw_items_of changes.now))) }
+    ensures { IfOk result (λ homed. homed.items
+        ≡ homed_of (home (all_marks cells.now)) (info_part (raw_items_of changes.now))) }
 {
     let mut homed = Vec::new(alloc);
     'changes: for change in changes {
@@ -186,8 +187,10 @@ fn too_large(size: u64) -> ListsFault
 // The chunk of a list. `TooLarge` where its body passes 16 MiB.
 fn spelled_list(alloc: Global, list: &InfoList) -> Result<Content, ListsFault>
     requires readable { IsReadable (Content.Listed list.now) }
-    ensures content { (c : Chunk) → c ≡ list_of (chunks_of list.now) list.now.rest → IfOk result (λ content. content ≡ Content.Edited (spell_all (c ∷ [])) (parts_in part_count (c ∷ []))) }
-    ensures large { (c : Chunk) → c ≡ list_of (chunks_of list.now) list.now.rest → TellsLarge (limited (2 ^ 24) (length c.body) ∷ []) result }
+    ensures content { (c : Chunk) → c ≡ list_of (chunks_of list.now) list.now.rest
+        → IfOk result (λ content. content ≡ edited_as (c ∷ [])) }
+    ensures large { (c : Chunk) → c ≡ list_of (chunks_of list.now) list.now.rest
+        → TellsLarge (limited (2 ^ 24) (length c.body) ∷ []) result }
 {
     let size = list.body_len();
     if size > MOST_BYTES {
@@ -211,8 +214,10 @@ fn edited_list(
 ) -> Result<Content, ListsFault>
     requires readable { IsReadable (Content.Listed list.old) }
     requires info { AreInfo homed.now }
-    ensures content { (c : Chunk) → c ≡ changed_list (part_in n homed.now) list.old → IfOk result (λ content. content ≡ Content.Edited (spell_all (c ∷ [])) (parts_in part_count (c ∷ []))) }
-    ensures large { TellsLarge (limited (2 ^ 24) (length (changed_list (part_in n homed.now) list.old).body) ∷ []) result }
+    ensures content { (c : Chunk) → c ≡ changed_list (part_in n homed.now) list.old
+        → IfOk result (λ content. content ≡ edited_as (c ∷ [])) }
+    ensures large { TellsLarge
+        (limited (2 ^ 24) (length (changed_list (part_in n homed.now) list.old).body) ∷ []) result }
 {
     let part = match part_for(alloc, homed, n) {
         Err(_) => return Err(ListsFault::Memory),
@@ -230,7 +235,8 @@ fn list_at(cell: &mut CellAt, alloc: Global, homed: &[Homed], n: usize) -> Resul
     requires readable { IsReadable cell.old.content }
     requires info { AreInfo homed.now }
     requires few { n + 1 < 2 ^ 64 }
-    ensures cell { OnOk result (cell.new ≡ (if holds_list cell.old.content then list_edited homed.now n cell.old else cell.old)) }
+    ensures cell { OnOk result (cell.new
+        ≡ (if holds_list cell.old.content then list_edited homed.now n cell.old else cell.old)) }
     ensures count { IfOk result (λ m. m ≡ (if holds_list cell.old.content then n + 1 else n)) }
     ensures large { TellsLarge (size_in homed.now n cell.old.content) result }
 {
@@ -257,7 +263,8 @@ fn change_lists(
 ) -> Result<usize, ListsFault>
     requires readable { AreReadable cells.old.items }
     requires info { AreInfo homed.now }
-    ensures cells { OnOk result (cells.new.items ≡ changed_row holds_list (λ n x. list_edited homed.now n x) 0 cells.old.items) }
+    ensures cells { OnOk result (cells.new.items
+        ≡ changed_row holds_list (λ n x. list_edited homed.now n x) 0 cells.old.items) }
     ensures count { IfOk result (λ n. n ≡ count_row holds_list cells.old.items) }
     ensures large { TellsLarge (sizes_in homed.now 0 cells.old.items) result }
 {
@@ -303,9 +310,9 @@ fn new_list(alloc: Global, homed: &[Homed]) -> Result<Option<Content>, ListsFaul
     }
 }
 
-/// Edits the lists of INFO items in a row of cells that begins at the byte `from`: each list that has an item of a changed
-/// field, or where such a field is at home. Where there is no list and a field is set, a new one stands behind all but
-/// padding. `TooLarge` tells the first list whose body passes 16 MiB.
+/// Edits the lists of INFO items in a row of cells that begins at the byte `from`: each list that has an item of a
+/// changed field, or where such a field is at home. Where there is no list and a field is set, a new one stands behind
+/// all but padding. `TooLarge` tells the first list whose body passes 16 MiB.
 pub fn edit_lists(
     cells: &mut Vec<CellAt>,
     alloc: Global,
@@ -314,9 +321,12 @@ pub fn edit_lists(
 ) -> Result<(), ListsFault>
     requires readable { AreReadable cells.old.items }
     ensures told { OnOk result ((xs : List Cell) → Unmet is_info xs → cells.old.items ≡ told_row from xs
-        → cells.new.items ≡ told_row from (acted_cells (lists_act info info_items never (info_part (raw_items_of changes.now)) (flat_map live xs)) xs)) }
-    ensures large { (xs : List Cell) → Unmet is_info xs → SmallLists (flat_map live xs) → cells.old.items ≡ told_row from xs
-        → TellsLarge (lengths (bodies is_info (acted (lists_act info info_items never (info_part (raw_items_of changes.now)) (flat_map live xs)) (flat_map live xs)))) result }
+        → cells.new.items
+        ≡ told_row from (edit_list_cells info info_items never (info_part (raw_items_of changes.now)) xs)) }
+    ensures large { (xs : List Cell) → Unmet is_info xs → SmallLists (flat_map live xs)
+        → cells.old.items ≡ told_row from xs
+        → TellsLarge (lengths (bodies is_info
+        (edited_lists info info_items never (info_part (raw_items_of changes.now)) (flat_map live xs)))) result }
     ensures follow { OnOk result ((end : ℕ) → Follow from cells.old.items end → Follow from cells.new.items end) }
 {
     let homed = match homed_changes(alloc, cells, changes) {

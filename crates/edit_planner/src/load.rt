@@ -54,7 +54,8 @@ fn read_body<D: Depot>(alloc: Global, depot: &mut D, span: Span) -> Result<Bytes
 fn load_list<D: Depot>(alloc: Global, depot: &mut D, span: Span) -> Result<Content, LoadFault>
     requires inside { Inside (span.at + span.len) (D.disk depot.old) }
     requires small { span.at + span.len < 2 ^ 63 }
-    ensures content { (b : List ℕ) → Holds (D.disk depot.old) b → (c : Chunk) → c.body ≡ slice b span.at span.len → IfOk result (λ content. content ≡ Content.Listed (list_in c)) }
+    ensures content { (b : List ℕ) → Holds (D.disk depot.old) b → (c : Chunk) → c.body ≡ slice b span.at span.len
+        → IfOk result (λ content. content ≡ Content.Listed (list_in c)) }
     ensures readable { IfOk result (λ content. IsReadable content) }
     ensures reads { ReadsOnly (D.disk depot.old) (D.disk depot.new) }
     ensures cause { result ≡ Err LoadFault.Depot → Rose (D.disk depot.old).faults (D.disk depot.new).faults }
@@ -76,7 +77,8 @@ fn load_list<D: Depot>(alloc: Global, depot: &mut D, span: Span) -> Result<Conte
 fn load_bext<D: Depot>(alloc: Global, depot: &mut D, span: Span) -> Result<Content, LoadFault>
     requires inside { Inside (span.at + span.len) (D.disk depot.old) }
     requires small { span.at + span.len < 2 ^ 63 }
-    ensures content { (b : List ℕ) → Holds (D.disk depot.old) b → IfOk result (λ content. content ≡ Content.Body (slice b span.at span.len)) }
+    ensures content { (b : List ℕ) → Holds (D.disk depot.old) b
+        → IfOk result (λ content. content ≡ Content.Body (slice b span.at span.len)) }
     ensures readable { IfOk result (λ content. IsReadable content) }
     ensures reads { ReadsOnly (D.disk depot.old) (D.disk depot.new) }
     ensures cause { result ≡ Err LoadFault.Depot → Rose (D.disk depot.old).faults (D.disk depot.new).faults }
@@ -95,7 +97,9 @@ fn load_bext<D: Depot>(alloc: Global, depot: &mut D, span: Span) -> Result<Conte
 fn load_content<D: Depot>(alloc: Global, depot: &mut D, part: &Part) -> Result<Content, LoadFault>
     requires inside { Inside (part.now.body.at + part.now.body.len) (D.disk depot.old) }
     requires small { part.now.body.at + part.now.body.len < 2 ^ 63 }
-    ensures content { (b : List ℕ) → Holds (D.disk depot.old) b → (at : ℕ) (c : Chunk) → part.now ≡ part_as (at_front at (role_of c)) at c → StandsAt b at c → IfOk result (λ content. content ≡ (told at (cell_at at c)).content) }
+    ensures content { (b : List ℕ) → Holds (D.disk depot.old) b
+        → (at : ℕ) (c : Chunk) → part.now ≡ part_as (at_front at (role_of c)) at c → StandsAt b at c
+        → IfOk result (λ content. content ≡ (told at (cell_at at c)).content) }
     ensures readable { IfOk result (λ content. IsReadable content) }
     ensures reads { ReadsOnly (D.disk depot.old) (D.disk depot.new) }
     ensures cause { result ≡ Err LoadFault.Depot → Rose (D.disk depot.old).faults (D.disk depot.new).faults }
@@ -114,7 +118,8 @@ fn load_content<D: Depot>(alloc: Global, depot: &mut D, part: &Part) -> Result<C
 // Whether a part has a body of odd length and no pad byte.
 fn lacks_pad(part: &Part) -> bool
     requires { part.now.body.at + part.now.body.len < 2 ^ 63 }
-    ensures pad { (b : List ℕ) (at : ℕ) (c : Chunk) → part.now ≡ part_as (at_front at (role_of c)) at c → StandsAt b at c → result ≡ (told at (cell_at at c)).lacks_pad }
+    ensures pad { (b : List ℕ) (at : ℕ) (c : Chunk) → part.now ≡ part_as (at_front at (role_of c)) at c
+        → StandsAt b at c → result ≡ (told at (cell_at at c)).lacks_pad }
 {
     part.body.len % 2 == 1 && part.next == part.body.at + part.body.len
 }
@@ -128,7 +133,9 @@ fn load_cell<D: Depot>(
 ) -> Result<CellAt, LoadFault>
     requires inside { Inside (part.now.body.at + part.now.body.len) (D.disk depot.old) }
     requires small { part.now.body.at + part.now.body.len < 2 ^ 63 }
-    ensures cell { (b : List ℕ) → Holds (D.disk depot.old) b → (c : Chunk) → part.now ≡ part_as (at_front at (role_of c)) at c → StandsAt b at c → IfOk result (λ cell. cell ≡ told at (cell_at at c)) }
+    ensures cell { (b : List ℕ) → Holds (D.disk depot.old) b
+        → (c : Chunk) → part.now ≡ part_as (at_front at (role_of c)) at c → StandsAt b at c
+        → IfOk result (λ cell. cell ≡ told at (cell_at at c)) }
     ensures place { IfOk result (λ cell. (cell.at ≡ at) × (cell.next ≡ part.now.next)) }
     ensures readable { IfOk result (λ cell. IsReadable cell.content) }
     ensures reads { ReadsOnly (D.disk depot.old) (D.disk depot.new) }
@@ -153,8 +160,8 @@ pub struct Loaded {
     pub end: u64,
 }
 
-/// Reads the cells of parts, the first of which begins at the byte `from`. Bodies of `bext` and of lists are read, and no
-/// others.
+/// Reads the cells of parts, the first of which begins at the byte `from`. Bodies of `bext` and of lists are read, and
+/// no others.
 pub fn load_cells<D: Depot>(
     alloc: Global,
     depot: &mut D,
@@ -165,7 +172,9 @@ pub fn load_cells<D: Depot>(
     requires ascend { Ascend from parts.now form_end }
     requires inside { Inside form_end (D.disk depot.old) }
     requires small { form_end < 2 ^ 63 }
-    ensures cells { (b : List ℕ) → Holds (D.disk depot.old) b → (cs : List Chunk) → parts.now ≡ along part_at from cs → StandFrom b from cs → IfOk result (λ l. l.cells.items ≡ told_chunks from cs) }
+    ensures cells { (b : List ℕ) → Holds (D.disk depot.old) b
+        → (cs : List Chunk) → parts.now ≡ along part_at from cs → StandFrom b from cs
+        → IfOk result (λ l. l.cells.items ≡ told_chunks from cs) }
     ensures follow { IfOk result (λ l. Follow from l.cells.items l.end) }
     ensures end { IfOk result (λ l. (from ≤ l.end) × (l.end ≤ form_end)) }
     ensures readable { IfOk result (λ l. AreReadable l.cells.items) }

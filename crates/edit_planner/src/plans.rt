@@ -1,5 +1,5 @@
 // The plan of an edit, from the map of a file.
-ghost use Rattle.std.specs.Prelude.{◌≡◌, ℕ, List, IfOk};
+ghost use Rattle.std.specs.Prelude.{◌≡◌, ℕ, List, None, IfOk};
 ghost use Rattle.me_bytes.specs.Bytes.{IsBytes};
 ghost use Rattle.me_disk.specs.Causes.{Rose};
 ghost use Rattle.me_disk.specs.Steps.{ReadsOnly};
@@ -13,11 +13,13 @@ ghost use Rattle.wave_plan.specs.Frame.{IsFormOf, IsSoundForm};
 ghost use Rattle.wave_model.specs.Kind.{wave_kind};
 ghost use Rattle.wave_plan.specs.Widened.{FitsReserved};
 ghost use Rattle.edit_planner.specs.Kinds.{model_in};
-ghost use Rattle.edit_planner.specs.Plan.{IsReady, Maps, SoundMap, fields_in, kind_in, reserved_in, streams_in, widening_in};
+ghost use Rattle.edit_planner.specs.Plan.{IsReady, Maps, SoundMap, fields_in, kind_in, reserved_in, streams_in, unbuilt_in, widening_in};
 
 use crate::wave::{PlaceFault, places_of};
+use avi_file::AviMap;
 use core_edit::{Edit, raw_changes};
 use me_disk::Depot;
+use mov_file::MovMap;
 use part_tree::{Kind, Part, Plan, PlanFault};
 use std::alloc::Global;
 use wave_file::WaveMap;
@@ -31,6 +33,8 @@ const LEAST_DS64: u64 = 28;
 #[derive(Debug, Drop)]
 pub enum FileMap {
     Wave(WaveMap),
+    Avi(AviMap),
+    Mov(MovMap),
 }
 
 // Whether a kind is of type WAVE.
@@ -84,9 +88,10 @@ fn widening_of(wave: &WaveMap) -> Widening
     }
 }
 
-/// The plan of an edit of the file in the depot, whose map this is. Each item has an effect on the fields of the map, and they
-/// break no basic rule. In place exactly where the edit has room there, and else a new file; a RIFF form that grows past 32 bits
-/// becomes RF64. `TooLarge` is the first size of the new file that passes its limit; `Depot` only where the count of the depot's faults rose.
+/// The plan of an edit of the file in the depot, whose map this is. Each item has an effect on the fields of the map,
+/// and they break no basic rule. In place exactly where the edit has room there, and else a new file; a RIFF form that
+/// grows past 32 bits becomes RF64. `TooLarge` is the first size of the new file that passes its limit; `Depot` only
+/// where the count of the depot's faults rose.
 pub fn plan<D: Depot>(
     alloc: Global,
     depot: &mut D,
@@ -95,6 +100,7 @@ pub fn plan<D: Depot>(
 ) -> Result<Plan, PlanFault>
     requires mapped { (b : List ℕ) → Holds (D.disk depot.old) b → Maps b file.now }
     requires sound { SoundMap file.now }
+    requires built { unbuilt_in file.now ≡ None }
     requires ready { IsReady (kind_in file.now) (streams_in file.now) (fields_in file.now) edit.now }
     ensures plans { (b : List ℕ) → Holds (D.disk depot.old) b → IsBytes b → PlansKind (model_in b) b edit.now result }
     ensures can { IfOk result (λ p. CanRun p) }
@@ -104,6 +110,7 @@ pub fn plan<D: Depot>(
 {
     match file {
         FileMap::Wave(wave) => plan_wave(alloc, depot, wave, edit),
+        FileMap::Avi(_) | FileMap::Mov(_) => unreachable!(),
     }
 }
 

@@ -74,9 +74,9 @@ fn begin_of(parts: &[Part]) -> u64
     }
 }
 
-/// The places of a file whose map is this, and what is to stand there after the changes. The depot is only read: the bodies of
-/// `bext` and of lists of INFO items. `TooLarge` where a list's body would pass 16 MiB, `Depot` only where the count of the
-/// depot's faults rose.
+/// The places of a file whose map is this, and what is to stand there after the changes. The depot is only read: the
+/// bodies of `bext` and of lists of INFO items. `TooLarge` where a list's body would pass 16 MiB, `Depot` only where
+/// the count of the depot's faults rose.
 pub fn places_of<D: Depot>(
     alloc: Global,
     depot: &mut D,
@@ -86,7 +86,8 @@ pub fn places_of<D: Depot>(
     requires mapped { (b : List ℕ) → Holds (D.disk depot.old) b → IsMapOf b map.now }
     requires sound { IsSound map.now }
     requires fine { AreFine changes.now }
-    ensures row { (b : List ℕ) → IsBytes b → Holds (D.disk depot.old) b → PlacesEdit b (raw_items_of changes.now) result }
+    ensures row { (b : List ℕ) → IsBytes b → Holds (D.disk depot.old) b
+        → PlacesEdit b (raw_items_of changes.now) result }
     ensures follow { IfOk result (λ r. Follow r.from r.places.items r.end) }
     ensures inside { IfOk result (λ r. (12 ≤ r.from) × (r.from ≤ r.end) × (r.end ≤ map.now.form_end)) }
     ensures reads { ReadsOnly (D.disk depot.old) (D.disk depot.new) }

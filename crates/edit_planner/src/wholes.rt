@@ -2,7 +2,7 @@
 ghost use Rattle.std.specs.Prelude.{◌≡◌, ◌≤◌, ◌<◌, ◌+◌, ◌^◌, [], ℕ, List, IfOk, IfSome, OnOk, length, Bool, Some, None, true, if◌then◌else◌, ◌==◌, map};
 ghost use Rattle.std.specs.List.{flat_map};
 ghost use Rattle.part_tree.specs.declared.field.Value.{Value};
-ghost use Rattle.container_model.specs.Chunk.{Chunk, spell_all};
+ghost use Rattle.container_model.specs.Chunk.{Chunk};
 ghost use Rattle.container_model.specs.Units.{Cell, live};
 ghost use Rattle.carrier_model.specs.Cells.{acted_cells};
 ghost use Rattle.carrier_model.specs.Info.{one_of};
@@ -11,8 +11,7 @@ ghost use Rattle.wave_model.specs.Fields.{is_whole as is_field};
 ghost use Rattle.bext_fields.specs.Change.{raw_items_of};
 ghost use Rattle.wave_model.specs.Carry.{names_whole, some_chunk, whole_act, whole_by};
 ghost use Rattle.carrier_model.specs.Steps.{carried};
-ghost use Rattle.unit_plan.specs.Shapes.{parts_in};
-ghost use Rattle.edit_planner.specs.Cells.{AreFine, Follow, NoWholes, Unmet, part_count, told_row};
+ghost use Rattle.edit_planner.specs.Cells.{AreFine, Follow, NoWholes, Unmet, edited_as, told_row};
 ghost use Rattle.edit_planner.specs.Row.{changed_row, count_row, edited_at, first_new, is_whole as holds_whole, new_whole};
 ghost use Rattle.edit_planner.specs.declared.cells.CellAt.{CellAt};
 
@@ -21,8 +20,8 @@ use bext_fields::RawChange;
 use part_tree::{Bytes, FieldName, FourCc, NoMemory, Value};
 use std::alloc::Global;
 
-// What is to stand where the chunk of an identifier stood: the chunk of the value for the first one, if there is a value, and
-// nothing for any other.
+// What is to stand where the chunk of an identifier stood: the chunk of the value for the first one, if there is a
+// value, and nothing for any other.
 fn whole_content(
     alloc: Global,
     word: FourCc,
@@ -31,7 +30,8 @@ fn whole_content(
 ) -> Result<Content, NoMemory>
     requires whole { one_of whole_ids word.0 ≡ true }
     requires small { IfSome value.now (λ v. length v.raw < 2 ^ 32) }
-    ensures { (now : List Chunk) → now ≡ (if first then new_whole word.0 value.now else []) → IfOk result (λ content. content ≡ Content.Edited (spell_all now) (parts_in part_count now)) }
+    ensures { (now : List Chunk) → now ≡ (if first then new_whole word.0 value.now else [])
+        → IfOk result (λ content. content ≡ edited_as now) }
 {
     let Some(value) = value else {
         return Ok(Content::Edited {
@@ -60,7 +60,9 @@ fn whole_at(
     requires whole { one_of whole_ids word.0 ≡ true }
     requires small { IfSome value.now (λ v. length v.raw < 2 ^ 32) }
     requires few { count + 1 < 2 ^ 64 }
-    ensures cell { OnOk result (cell.new ≡ (if holds_whole word.0 cell.old.content then edited_at cell.old (first_new (new_whole word.0 value.now) count) else cell.old)) }
+    ensures cell { OnOk result (cell.new
+        ≡ (if holds_whole word.0 cell.old.content then edited_at cell.old (first_new (new_whole word.0 value.now) count)
+        else cell.old)) }
     ensures count { IfOk result (λ n. n ≡ (if holds_whole word.0 cell.old.content then count + 1 else count)) }
 {
     if !is_whole(cell, word) {
@@ -80,7 +82,8 @@ fn change_wholes(
 ) -> Result<usize, NoMemory>
     requires whole { one_of whole_ids word.0 ≡ true }
     requires small { IfSome value.now (λ v. length v.raw < 2 ^ 32) }
-    ensures cells { OnOk result (cells.new.items ≡ changed_row (holds_whole word.0) (λ n x. edited_at x (first_new (new_whole word.0 value.now) n)) 0 cells.old.items) }
+    ensures cells { OnOk result (cells.new.items ≡ changed_row (holds_whole word.0)
+        (λ n x. edited_at x (first_new (new_whole word.0 value.now) n)) 0 cells.old.items) }
     ensures count { IfOk result (λ n. n ≡ count_row (holds_whole word.0) cells.old.items) }
 {
     let mut count = 0;
@@ -90,8 +93,8 @@ fn change_wholes(
     Ok(count)
 }
 
-/// Sets or removes the field of an identifier as a whole, in a row of cells that begins at the byte `from`: the first chunk
-/// becomes the new one and the others go, or a new one stands behind all but padding.
+/// Sets or removes the field of an identifier as a whole, in a row of cells that begins at the byte `from`: the first
+/// chunk becomes the new one and the others go, or a new one stands behind all but padding.
 pub fn put_whole(
     cells: &mut Vec<CellAt>,
     alloc: Global,
@@ -102,7 +105,8 @@ pub fn put_whole(
     requires whole { one_of whole_ids word.0 ≡ true }
     requires small { IfSome value.now (λ v. length v.raw < 2 ^ 32) }
     ensures told { OnOk result ((xs : List Cell) → Unmet (is_field word.0) xs → cells.old.items ≡ told_row from xs
-        → cells.new.items ≡ told_row from (acted_cells (whole_by word.0 (Some value.now) (some_chunk (is_field word.0) (flat_map live xs))) xs)) }
+        → cells.new.items ≡ told_row from (acted_cells
+        (whole_by word.0 (Some value.now) (some_chunk (is_field word.0) (flat_map live xs))) xs)) }
     ensures follow { OnOk result ((end : ℕ) → Follow from cells.old.items end → Follow from cells.new.items end) }
 {
     let count = change_wholes(cells, alloc, word, value)?;
@@ -126,7 +130,8 @@ fn is_of(change: &RawChange, word: FourCc) -> bool
     }
 }
 
-// Sets or removes the field of an identifier as a whole, where a change is of it; the last one tells what becomes of it.
+// Sets or removes the field of an identifier as a whole, where a change is of it; the last one tells what becomes of
+// it.
 fn edit_whole(
     cells: &mut Vec<CellAt>,
     alloc: Global,
@@ -137,7 +142,8 @@ fn edit_whole(
     requires whole { one_of whole_ids word.0 ≡ true }
     requires fine { AreFine changes.now }
     ensures told { OnOk result ((xs : List Cell) → Unmet (is_field word.0) xs → cells.old.items ≡ told_row from xs
-        → cells.new.items ≡ told_row from (acted_cells (whole_act word.0 (raw_items_of changes.now) (flat_map live xs)) xs)) }
+        → cells.new.items
+        ≡ told_row from (acted_cells (whole_act word.0 (raw_items_of changes.now) (flat_map live xs)) xs)) }
     ensures follow { OnOk result ((end : ℕ) → Follow from cells.old.items end → Follow from cells.new.items end) }
 {
     let mut k = changes.len();

@@ -8,6 +8,9 @@ mod runs;
 mod sparse;
 mod stops;
 #[cfg(test)]
+mod table_tests;
+mod tables;
+#[cfg(test)]
 mod tests;
 
 pub use files::{
@@ -15,12 +18,13 @@ pub use files::{
     ODD_TITLED, PLAIN, SHORT, TITLED, TITLES, VERSION_AT, described, with_bext,
 };
 pub use rows::{Held, Row, goes};
-pub use runs::{Ran, depot_of, holds, paper, run_on, run_told, words_of};
+pub use runs::{Ran, depot_of, holds, paper, run_by, run_on, run_told, words_of};
 pub use sparse::{
-    FULL_WIDENED, HELLO, HI, ROOMY_WIDENED, WIDE_SOUND, five_gigabytes, full_wave, has_len,
-    narrow_wave, roomy_wave, shows,
+    FULL_WIDENED, HELLO, HI, ROOMY_WIDENED, WIDE_SOUND, cut_and_lengthened, five_gigabytes,
+    full_wave, has_len, narrow_wave, roomy_wave, shows,
 };
 pub use stops::{
     NO_EDIT, RECOVER, calls_of, is_done_within, is_recovered, pick_of, plain, stop, stopped,
     survives, survives_twice, tells_the_fault,
 };
+pub use tables::{TableRow, goes_by};

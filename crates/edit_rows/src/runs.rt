@@ -1,8 +1,8 @@
 // Runs of the editor over a depot in memory.
-ghost use Rattle.std.specs.Prelude.{◌≡◌, ◌↔◌, IfOk, IsTrue, None, [], map, option_copied};
+ghost use Rattle.std.specs.Prelude.{◌≡◌, ◌↔◌, IfOk, IsTrue, None, Some, [], map, option_copied};
 ghost use Rattle.me_disk.specs.Disk.{Image, Only, held, read_as};
 ghost use Rattle.me_disk.specs.Memory.{items_of, memory_disk};
-ghost use Rattle.metaedit_top.specs.Run.{MayStandBy};
+ghost use Rattle.metaedit_top.specs.Answered.{MayStandOf};
 
 use me_disk::{Depot, FailAt, MemoryDepot, MemorySink, MemorySource, Room, Slot};
 use metaedit_top::{Outcome, Word, metaedit};
@@ -38,7 +38,8 @@ pub fn depot_of(
     journal: Option<&[u8]>,
     failing: &[FailAt],
 ) -> Result<MemoryDepot, NoMemory>
-    ensures slots { IfOk result (λ d. (memory_disk d).slots ≡ record { main = option_copied main.entry; journal = option_copied journal.entry; work = None }) }
+    ensures slots { IfOk result (λ d. (memory_disk d).slots
+        ≡ record { main = option_copied main.entry; journal = option_copied journal.entry; work = None }) }
     ensures only { IfOk result (λ d. Only (read_as (memory_disk d).slots) (memory_disk d)) }
 {
     let main = owned(alloc, main)?;
@@ -63,6 +64,21 @@ pub fn paper(alloc: Global, failing: &[u64]) -> Result<MemorySink, NoMemory>
     MemorySink::new(alloc, PAPER, failing.to_vec(alloc)?)
 }
 
+/// What a run with these words and this table answers.
+pub fn run_by<D: Depot>(
+    alloc: Global,
+    words: &[Word],
+    table: &mut MemorySource,
+    depot: &mut D,
+    out: &mut MemorySink,
+) -> Outcome
+    requires { Only (read_as (D.disk depot.old).slots) (D.disk depot.old) }
+    ensures { (i : Image) → (D.disk depot.new).since (D.disk depot.old).clock i
+        → MayStandOf words.now (Some table.old.left) (D.disk depot.old) i }
+{
+    metaedit(alloc, words, depot, table, out)
+}
+
 /// What a run with these words answers.
 pub fn run_on<D: Depot>(
     alloc: Global,
@@ -71,10 +87,11 @@ pub fn run_on<D: Depot>(
     out: &mut MemorySink,
 ) -> Outcome
     requires { Only (read_as (D.disk depot.old).slots) (D.disk depot.old) }
-    ensures { (i : Image) → (D.disk depot.new).since (D.disk depot.old).clock i → MayStandBy words.now (D.disk depot.old) i }
+    ensures { (i : Image) → (D.disk depot.new).since (D.disk depot.old).clock i
+        → MayStandOf words.now (Some []) (D.disk depot.old) i }
 {
     let mut table = MemorySource::new(Vec::new(alloc), Vec::new(alloc));
-    metaedit(alloc, words, depot, &mut table, out)
+    run_by(alloc, words, &mut table, depot, out)
 }
 
 /// What a run answers, and the paper that it printed on.
@@ -87,7 +104,8 @@ pub struct Ran {
 /// A run whose words are these texts.
 pub fn run_told<D: Depot>(alloc: Global, texts: &[&str], depot: &mut D) -> Result<Ran, NoMemory>
     requires { Only (read_as (D.disk depot.old).slots) (D.disk depot.old) }
-    ensures { (i : Image) → (D.disk depot.new).since (D.disk depot.old).clock i → MayStandBy (map (λ text. text.now) texts.now) (D.disk depot.old) i }
+    ensures { (i : Image) → (D.disk depot.new).since (D.disk depot.old).clock i
+        → MayStandOf (map (λ text. text.now) texts.now) (Some []) (D.disk depot.old) i }
 {
     let words = words_of(alloc, texts)?;
     let mut out = paper(alloc, &[])?;
@@ -97,7 +115,8 @@ pub fn run_told<D: Depot>(alloc: Global, texts: &[&str], depot: &mut D) -> Resul
 
 /// Whether the depot holds this file and this journal, and no work file.
 pub fn holds(depot: &MemoryDepot, main: Option<&[u8]>, journal: Option<&[u8]>) -> bool
-    ensures { IsTrue result ↔ ((memory_disk depot.now).slots ≡ record { main = option_copied main.entry; journal = option_copied journal.entry; work = None }) }
+    ensures { IsTrue result ↔ ((memory_disk depot.now).slots
+        ≡ record { main = option_copied main.entry; journal = option_copied journal.entry; work = None }) }
 {
     has(depot, Slot::Main, main)
         && has(depot, Slot::Journal, journal)

@@ -4,7 +4,7 @@ ghost use Rattle.me_disk.specs.Disk.{Only, read_as};
 ghost use Rattle.me_disk.specs.Sparse.{IsFresh, sparse_disk};
 ghost use Rattle.me_disk.specs.Steps.{ReadsOnly};
 
-use me_disk::{Depot, Run, Slot, SparseDepot};
+use me_disk::{Depot, DepotFault, Run, Slot, SparseDepot};
 use part_tree::NoMemory;
 use std::alloc::Global;
 
@@ -63,13 +63,14 @@ pub fn five_gigabytes(alloc: Global) -> Result<SparseDepot, NoMemory>
     depot_of_runs(alloc, runs.or(Err(NoMemory))?)
 }
 
-/// A WAVE file with 4,294,967,244 bytes of sound, which its sizes can just tell.
+/// A WAVE file with 4,294,967,244 bytes of sound, which its sizes can just tell. The first 5,000 of them are 7.
 pub fn full_wave(alloc: Global) -> Result<SparseDepot, NoMemory>
     ensures fresh { IfOk result IsFresh }
     ensures only { IfOk result (λ d. Only (read_as (sparse_disk d).slots) (sparse_disk d)) }
 {
     let head = Run::Bytes(FULL_HEAD.to_vec(alloc)?);
-    let runs = vec![in alloc; head, Run::Zero(4_294_967_244)];
+    let sevens = Run::Bytes(vec![in alloc; 7u8; 5_000]?);
+    let runs = vec![in alloc; head, sevens, Run::Zero(4_294_962_244)];
     depot_of_runs(alloc, runs.or(Err(NoMemory))?)
 }
 
@@ -91,6 +92,12 @@ pub fn narrow_wave(alloc: Global) -> Result<SparseDepot, NoMemory>
     let head = Run::Bytes(NARROW_HEAD.to_vec(alloc)?);
     let runs = vec![in alloc; head, Run::Zero(4_294_967_198)];
     depot_of_runs(alloc, runs.or(Err(NoMemory))?)
+}
+
+/// Cuts the file at its hundredth byte, and writes one byte with a gap of two before it.
+pub fn cut_and_lengthened(depot: &mut SparseDepot) -> Result<(), DepotFault> {
+    depot.set_main_len(100)?;
+    depot.write_main(102, b"x")
 }
 
 /// Whether the file has these bytes, at most 64, from `at` on.

@@ -1,8 +1,8 @@
 // Runs that are stopped after one of their calls, and recovered.
-ghost use Rattle.std.specs.Prelude.{◌≡◌, ◌-◌, ◌≤◌, IfOk, None, Some, map};
+ghost use Rattle.std.specs.Prelude.{◌≡◌, ◌-◌, ◌≤◌, IfOk, None, Some, [], map};
 ghost use Rattle.me_disk.specs.Disk.{Only, read_as};
 ghost use Rattle.me_disk.specs.Memory.{memory_disk};
-ghost use Rattle.metaedit_top.specs.Run.{MayStandBy};
+ghost use Rattle.metaedit_top.specs.Answered.{MayStandOf};
 
 use crate::files::PLAIN;
 use crate::runs::{depot_of, holds, run_told};
@@ -37,7 +37,8 @@ pub fn pick_of(k: u64) -> Pick
 
 /// A depot that holds the plain file.
 pub fn plain(alloc: Global) -> Result<MemoryDepot, NoMemory>
-    ensures slots { IfOk result (λ d. (memory_disk d).slots ≡ record { main = Some PLAIN.now; journal = None; work = None }) }
+    ensures slots { IfOk result (λ d. (memory_disk d).slots
+        ≡ record { main = Some PLAIN.now; journal = None; work = None }) }
     ensures only { IfOk result (λ d. Only (read_as (memory_disk d).slots) (memory_disk d)) }
 {
     depot_of(alloc, Some(PLAIN), None, &[])
@@ -46,7 +47,8 @@ pub fn plain(alloc: Global) -> Result<MemoryDepot, NoMemory>
 /// Lets every call after the n-th fail.
 pub fn stop(depot: &mut MemoryDepot, n: u64)
     ensures slots { (memory_disk depot.new).slots ≡ (memory_disk depot.old).slots }
-    ensures only { Only (read_as (memory_disk depot.old).slots) (memory_disk depot.old) → Only (read_as (memory_disk depot.new).slots) (memory_disk depot.new) }
+    ensures only { Only (read_as (memory_disk depot.old).slots) (memory_disk depot.old)
+        → Only (read_as (memory_disk depot.new).slots) (memory_disk depot.new) }
 {
     depot.stop_after(n);
 }
@@ -60,7 +62,9 @@ pub fn stopped(
     pick: Pick,
 ) -> Result<MemoryDepot, NoMemory>
     requires { Only (read_as (memory_disk depot).slots) (memory_disk depot) }
-    ensures stands { IfOk result (λ d. MayStandBy (map (λ text. text.now) texts.now) (memory_disk depot) (read_as (memory_disk d).slots)) }
+    ensures stands { IfOk result
+        (λ d. MayStandOf (map (λ text. text.now) texts.now) (Some []) (memory_disk depot)
+        (read_as (memory_disk d).slots)) }
     ensures only { IfOk result (λ d. Only (read_as (memory_disk d).slots) (memory_disk d)) }
 {
     stop(&mut depot, n);

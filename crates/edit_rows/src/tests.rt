@@ -1,13 +1,13 @@
 // Worked runs, by what each shows.
 use crate::files::{
-    CHECKED, DATED, EMPTY, EMPTY_TITLED, JOURNAL, LARGE, LARGE_TITLED, LOUD, NUMBERED, ODD,
-    ODD_TITLED, PLAIN, SHORT, TITLED, TITLES, VERSION_AT, described, with_bext,
+    CHECKED, DATED, EMPTY, EMPTY_TITLED, FRAMES, JOURNAL, LARGE, LARGE_TITLED, LOUD, MOVIE,
+    NUMBERED, ODD, ODD_TITLED, PLAIN, SHORT, TITLED, TITLES, VERSION_AT, described, with_bext,
 };
 use crate::rows::{Held, Row, goes};
 use crate::runs::{depot_of, holds, paper, run_on, run_told, words_of};
 use crate::sparse::{
-    FULL_WIDENED, HELLO, HI, ROOMY_WIDENED, WIDE_SOUND, five_gigabytes, full_wave, has_len,
-    narrow_wave, roomy_wave, shows,
+    FULL_WIDENED, HELLO, HI, ROOMY_WIDENED, WIDE_SOUND, cut_and_lengthened, five_gigabytes,
+    full_wave, has_len, narrow_wave, roomy_wave, shows,
 };
 use crate::stops::{NO_EDIT, RECOVER, calls_of, plain, survives, survives_twice, tells_the_fault};
 use me_disk::FailAt;
@@ -45,6 +45,35 @@ const CHANGED: &str = "done changed in-place essence 4\n";
 fn a_title_is_set_in_place(rt: HostRuntime) -> Result<(), Fail> {
     let row = Row::leaving(TITLE, PLAIN, CHANGED, TITLED, 106);
     assert!(rt; goes(rt.alloc(), &row, &Outcome::Done(IN_PLACE))?);
+    Ok(())
+}
+
+#[test]
+fn movies_and_avi_files_are_shown(rt: HostRuntime) -> Result<(), Fail> {
+    let rows = [
+        (
+            MOVIE,
+            16,
+            "kind mov\nessence 16\ntrack 1 chunks 2 samples 2\n@nam=Reel\n",
+        ),
+        (FRAMES, 32, "kind avi\nessence 32\nindex 2\n"),
+    ];
+    for (file, payload, printed) in rows.iter() {
+        let row = Row::done(&["show", "f.wav"], *file, *printed);
+        let summary = Summary {
+            payload: *payload,
+            ..READ
+        };
+        assert!(rt; goes(rt.alloc(), &row, &Outcome::Done(summary))?);
+    }
+    Ok(())
+}
+
+#[test]
+fn movies_are_not_edited_yet(rt: HostRuntime) -> Result<(), Fail> {
+    let line = "refused 5 NotSupported NotBuilt\n";
+    let row = Row::refused(&["set", "f.wav", "@nam=Hi"], MOVIE, 5, line);
+    assert!(rt; goes(rt.alloc(), &row, &Outcome::NotSupported(Why::NotBuilt))?);
     Ok(())
 }
 
@@ -494,7 +523,18 @@ fn a_wave_file_that_passes_four_gigabytes_becomes_rf64(rt: HostRuntime) -> Resul
     assert!(rt; has_len(&mut depot, 4_294_967_348));
     assert!(rt; shows(&mut depot, 0, FULL_WIDENED));
     assert!(rt; shows(&mut depot, 48, WIDE_SOUND));
+    assert!(rt; shows(&mut depot, 80, &[7; 64]));
+    assert!(rt; shows(&mut depot, 5_076, b"\x07\x07\x07\x07\0\0\0\0"));
     assert!(rt; shows(&mut depot, 4_294_967_324, HI));
+    Ok(())
+}
+
+#[test]
+fn a_cut_takes_all_bytes_behind_it(rt: HostRuntime) -> Result<(), Fail> {
+    let mut depot = full_wave(rt.alloc())?;
+    assert!(rt; cut_and_lengthened(&mut depot).is_ok());
+    assert!(rt; shows(&mut depot, 98, b"\x07\x07\0\0x"));
+    assert!(rt; has_len(&mut depot, 103));
     Ok(())
 }
 

@@ -26,7 +26,8 @@ pub fn unescape(alloc: Global, text: &[u8]) -> Result<Option<Bytes>, NoMemory>
 // Returns how many of the others are the rest of one, and None at a bad escape.
 fn read_letter(raw: &mut Vec<u8>, text: &[u8], more: usize) -> Result<Option<usize>, NoMemory>
     requires { 0 < length text.now }
-    ensures { IfOk result (λ next. spec.joined raw.new.items (spec.left next (drop 1 text.now)) ≡ spec.joined raw.old.items (spec.unescaped_from more text.now)) }
+    ensures { IfOk result (λ next. spec.joined raw.new.items (spec.left next (drop 1 text.now))
+        ≡ spec.joined raw.old.items (spec.unescaped_from more text.now)) }
 {
     if more > 0 {
         return Ok(Some(more - 1));

@@ -22,7 +22,8 @@ pub fn escape(alloc: Global, raw: &[u8]) -> Result<Bytes, NoMemory>
 // Appends the first of some bytes, of which `ahead` are the rest of a character. Returns how many of the others are.
 fn put_first(text: &mut Vec<u8>, rest: &[u8], ahead: usize) -> Result<usize, NoMemory>
     requires { 0 < length rest.now }
-    ensures { IfOk result (λ next. text.new.items ++ spec.escaped_from next (drop 1 rest.now) ≡ text.old.items ++ spec.escaped_from ahead rest.now) }
+    ensures { IfOk result (λ next. text.new.items ++ spec.escaped_from next (drop 1 rest.now)
+        ≡ text.old.items ++ spec.escaped_from ahead rest.now) }
 {
     if ahead > 0 {
         put_all(text, &rest[..1])?;

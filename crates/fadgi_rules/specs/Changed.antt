@@ -13,7 +13,8 @@ use Rattle.field_model.specs.Update.{has_effect}
 -- the change of the first such item
 abbrev pub change_in : FieldMap → List EditItem → FieldName → Option Change
 change_in f [] name = None
-change_in f (item ∷ e) name = if same_name item.name name && has_effect f item then Some item.change else change_in f e name
+change_in f (item ∷ e) name =
+    if same_name item.name name && has_effect f item then Some item.change else change_in f e name
 
 -- no item with an effect breaks one of the rules 1 to 13
 abbrev pub IsFine : FieldMap → List EditItem → Type 0

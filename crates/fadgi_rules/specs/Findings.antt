@@ -13,7 +13,8 @@ use Rattle.fadgi_rules.specs.Rows.{number, set_of, fields_of, fails}
 
 -- the fields that break a rule, where its set is chosen
 abbrev pub row_findings : FieldRule → Kind → FieldMap → List EditItem → RuleSet → List Broken
-row_findings r kind f e sets = if chooses sets (set_of r) then map (found (number r)) (filter (fails r (update f e)) (fields_of r kind)) else []
+row_findings r kind f e sets =
+    if chooses sets (set_of r) then map (found (number r)) (filter (fails r (update f e)) (fields_of r kind)) else []
 
 -- the same of some rules, one after the other
 abbrev pub field_findings : List FieldRule → Kind → FieldMap → List EditItem → RuleSet → List Broken

@@ -52,7 +52,8 @@ found n name = record { rule = n; field = name }
 
 -- the least rule that an item breaks, with its field, where the item has an effect
 abbrev pub item_broken : Kind → ℕ → FieldMap → EditItem → Option Broken
-item_broken kind streams f item = if has_effect f item then option_map (λ n. found n item.name) (item_rule kind streams item) else None
+item_broken kind streams f item =
+    if has_effect f item then option_map (λ n. found n item.name) (item_rule kind streams item) else None
 
 -- a lower rule comes first, and of one rule the field that comes first
 abbrev pub comes_first : Broken → Broken → Bool

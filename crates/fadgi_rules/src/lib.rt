@@ -1,5 +1,5 @@
-//! The 24 editing rules: which of them an edit of the fields of a file breaks, and which of them fields break as they stand.
-//! It knows fields and edits alone, and no file. The first broken rule is found without taking memory.
+//! The 24 editing rules: which of them an edit of the fields of a file breaks, and which of them fields break as they
+//! stand. It knows fields and edits alone, and no file. The first broken rule is found without taking memory.
 #![tactic(auto)]
 
 ghost use Rattle.std.specs.Prelude.{◌≡◌, ℕ, [], IfOk};
@@ -24,10 +24,10 @@ pub use part_tree::{Broken, RuleSet};
 use part_tree::{Fields, Kind, NoMemory};
 use row::{all_by_fields, first_by_fields};
 use std::alloc::Global;
-pub use table::{RULES, RuleRow};
+pub use table::{RULES, RuleRow, rule_rows};
 
-/// The first rule of the chosen sets that an edit of a file with so many streams breaks, with the first field in field order
-/// that breaks it. None where it breaks none. It takes no memory.
+/// The first rule of the chosen sets that an edit of a file with so many streams breaks, with the first field in field
+/// order that breaks it. None where it breaks none. It takes no memory.
 pub fn first_broken(
     kind: Kind,
     streams: u32,
@@ -45,8 +45,8 @@ pub fn first_broken(
     }
 }
 
-/// Each rule of the chosen sets that fields break without an edit, and each field that breaks it: by rule, then in field
-/// order. `NoMemory` where the list doesn't fit.
+/// Each rule of the chosen sets that fields break without an edit, and each field that breaks it: by rule, then in
+/// field order. `NoMemory` where the list doesn't fit.
 pub fn all_broken(
     alloc: Global,
     kind: Kind,

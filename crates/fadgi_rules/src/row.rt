@@ -156,8 +156,8 @@ fn date_fields(kind: Kind) -> Names
     }
 }
 
-/// The first rule of the chosen sets that an edit breaks, with the first field that breaks it, where its items break none of
-/// the rules 1 to 13.
+/// The first rule of the chosen sets that an edit breaks, with the first field that breaks it, where its items break
+/// none of the rules 1 to 13.
 pub fn first_by_fields(
     kind: Kind,
     streams: u32,
@@ -217,7 +217,8 @@ fn first_failing(
     requires lawful { IsLawful (values fields.now) }
     requires sound { AreSound items.now }
     requires fine { spec.broken kind streams (values fields.now) items.now Base ≡ None }
-    ensures { result ≡ rows.first_in (filter (rows.fails rule (update (values fields.now) items.now)) (rows.fields_of rule kind)) }
+    ensures { result
+        ≡ rows.first_in (filter (rows.fails rule (update (values fields.now) items.now)) (rows.fields_of rule kind)) }
 {
     let names = fields_of(rule, kind);
     for k in 0..names.len() {

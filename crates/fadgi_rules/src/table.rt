@@ -1,4 +1,7 @@
 // The table of the rules.
+ghost use Rattle.std.specs.Prelude.{◌≡◌, map};
+ghost use Rattle.part_tree.specs.Names.{rule_names};
+
 use part_tree::RuleSet;
 
 /// A rule: its number, the set that it belongs to, and its name.
@@ -141,6 +144,16 @@ macro_rules! rows_are {
 }
 
 // The numbers are 1 to 24, in order.
-const _: () = prove!(
-    rows_are!(0 Base, 1 Base, 2 Base, 3 Base, 4 Base, 5 Base, 6 Base, 7 Base, 8 Base, 9 Base, 10 Base, 11 Base, 12 Base, 13 Ebu, 14 Ebu, 15 Ebu, 16 Ebu, 17 Ebu, 18 Info, 19 Info, 20 Info, 21 Fadgi, 22 Fadgi, 23 Fadgi)
-);
+const _: () = prove!(rows_are!(
+    0 Base, 1 Base, 2 Base, 3 Base, 4 Base, 5 Base, 6 Base, 7 Base, 8 Base, 9 Base, 10 Base, 11 Base, 12 Base,
+    13 Ebu, 14 Ebu, 15 Ebu, 16 Ebu, 17 Ebu,
+    18 Info, 19 Info, 20 Info,
+    21 Fadgi, 22 Fadgi, 23 Fadgi
+));
+
+/// The rules, each with the name that every report tells it by.
+pub fn rule_rows() -> &'static [RuleRow]
+    ensures { map (λ row. row.name.now) result.now ≡ rule_names }
+{
+    &RULES
+}

@@ -5,14 +5,15 @@ ghost use Rattle.part_tree.specs.declared.field.FieldName.TheVariants.{Bext, Key
 ghost use Rattle.part_tree.specs.Fields.{values};
 ghost use Rattle.core_edit.specs.Edits.{IsNamed};
 
-use crate::{RULES, all_broken, first_broken};
+use crate::{all_broken, first_broken};
 use core_edit::{Change, Edit, EditItem, field_name, name_text};
-use part_tree::{Broken, Bytes, FieldName, Fields, FourCc, Kind, RuleSet, Value, rule_name};
+use part_tree::{Broken, Bytes, FieldName, Fields, FourCc, Kind, RuleSet, Value};
 use std::alloc::Global;
 use std::process::Abort;
 use std::test::Fail;
 
-// An edit of one field, in a file without fields: the kind, the field, its text or none to remove it, and the set of rules.
+// An edit of one field, in a file without fields: the kind, the field, its text or none to remove it, and the set of
+// rules.
 #[derive(Clone, Copy)]
 struct Row {
     kind: Kind,
@@ -225,11 +226,4 @@ fn fields_as_they_stand(rt: HostRuntime) -> Result<(), Fail> {
         assert!(rt; is_broken(found.get(i).copied(), Some((19 + i as u8, names[i]))));
     }
     Ok(())
-}
-
-#[test]
-fn rows_have_the_names_of_the_rules(rt: HostRuntime) {
-    for row in RULES.iter() {
-        assert!(rt; row.name == rule_name(row.id));
-    }
 }

@@ -1,3 +1,4 @@
+pub mod Changed
 pub mod Effective
 pub mod Fills
 pub mod Fits
@@ -6,3 +7,4 @@ pub mod Raised
 pub mod Names
 pub mod Ranges
 mod Rows
+pub mod Same

@@ -28,8 +28,11 @@ pub(crate) fn append_block<D: Depot>(
     from: usize,
 ) -> Result<(), DepotFault>
     requires from { from < length bytes.now }
-    requires allows { Allows (AppendWork (part bytes.now (record { at = from; len = min block (length bytes.now - from) }))) (D.disk depot.old) }
-    ensures does { Does (AppendWork (part bytes.now (record { at = from; len = min block (length bytes.now - from) }))) (D.disk depot.old) (D.disk depot.new) result }
+    requires allows { Allows
+        (AppendWork (part bytes.now (record { at = from; len = min block (length bytes.now - from) })))
+        (D.disk depot.old) }
+    ensures does { Does (AppendWork (part bytes.now (record { at = from; len = min block (length bytes.now - from) })))
+        (D.disk depot.old) (D.disk depot.new) result }
     ensures counted { Counted 1 (D.calls depot.old) (D.calls depot.new) }
 {
     depot.append_work(block_of(bytes, from))
@@ -39,8 +42,13 @@ pub(crate) fn append_block<D: Depot>(
 pub(crate) fn write_block<D: Depot>(depot: &mut D, p: &Patch, from: usize) -> Result<(), DepotFault>
     requires from { from < length p.now.bytes }
     requires fits { p.now.at + length p.now.bytes < 2 ^ 63 }
-    requires allows { Allows (WriteMain (p.now.at + from) (part p.now.bytes (record { at = from; len = min block (length p.now.bytes - from) }))) (D.disk depot.old) }
-    ensures does { Does (WriteMain (p.now.at + from) (part p.now.bytes (record { at = from; len = min block (length p.now.bytes - from) }))) (D.disk depot.old) (D.disk depot.new) result }
+    requires allows { Allows
+        (WriteMain (p.now.at + from)
+        (part p.now.bytes (record { at = from; len = min block (length p.now.bytes - from) }))) (D.disk depot.old) }
+    ensures does { Does
+        (WriteMain (p.now.at + from)
+        (part p.now.bytes (record { at = from; len = min block (length p.now.bytes - from) }))) (D.disk depot.old)
+        (D.disk depot.new) result }
     ensures counted { Counted 1 (D.calls depot.old) (D.calls depot.new) }
 {
     depot.write_main(p.at + from as u64, block_of(p.bytes.as_slice(), from))
@@ -55,7 +63,8 @@ pub(crate) fn read_block<D: Depot>(
 ) -> Result<(), DepotFault>
     requires room { n ≤ length buffer.old }
     requires told { IsTrue (D.disk depot.old).tells → at + n ≤ length (bytes_of (D.disk depot.old).slots.main) }
-    ensures held { OnOk result (IsTrue (D.disk depot.old).tells → take n buffer.new ≡ take n (drop at (bytes_of (D.disk depot.old).slots.main))) }
+    ensures held { OnOk result (IsTrue (D.disk depot.old).tells
+        → take n buffer.new ≡ take n (drop at (bytes_of (D.disk depot.old).slots.main))) }
     ensures reads { ReadsOnly (D.disk depot.old) (D.disk depot.new) }
     ensures cause { HasCause (D.disk depot.old) (D.disk depot.new) result }
     ensures counted { Counted 1 (D.calls depot.old) (D.calls depot.new) }

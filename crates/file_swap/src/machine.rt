@@ -121,16 +121,20 @@ impl Core {
         ensures sound { IsSound self.new }
         ensures runs { CanRun (swap_of self.old).plan }
         ensures plan { (swap_of self.new).plan ≡ (swap_of self.old).plan }
-        ensures made { result ≢ Turn.Fault → (swap_of self.new).made ≡ min ((swap_of self.old).made + 1) (calls (swap_of self.old).plan) }
+        ensures made { result ≢ Turn.Fault
+            → (swap_of self.new).made ≡ min ((swap_of self.old).made + 1) (calls (swap_of self.old).plan) }
         ensures more { result ≡ Turn.More → (swap_of self.new).made < calls (swap_of self.old).plan }
         ensures done { result ≡ Turn.Done → (swap_of self.new).made ≡ calls (swap_of self.old).plan }
         ensures underway { result ≢ Turn.Fault → Underway (swap_of self.new) old (D.disk depot.new) }
         ensures fault { result ≡ Turn.Fault → swap_of self.new ≡ record (swap_of self.old) { failed = true } }
-        ensures crash { Leaves (IsNear (swap_of self.old).plan old (swap_of self.old).made) (D.disk depot.old) (D.disk depot.new) }
-        ensures written { TurnWrites (step_bytes (step_at (swap_of self.old).plan (swap_of self.old).made)) (D.disk depot.old) (D.disk depot.new) result }
+        ensures crash { Leaves (IsNear (swap_of self.old).plan old (swap_of self.old).made) (D.disk depot.old)
+            (D.disk depot.new) }
+        ensures written { TurnWrites (step_bytes (step_at (swap_of self.old).plan (swap_of self.old).made))
+            (D.disk depot.old) (D.disk depot.new) result }
         ensures cause { result ≡ Turn.Fault → Rose (D.disk depot.old).faults (D.disk depot.new).faults }
         ensures counted { Counted (next_calls (swap_of self.old)) (D.calls depot.old) (D.calls depot.new) }
-        ensures idle { (swap_of self.old).made ≡ calls (swap_of self.old).plan → (result ≡ Turn.Done) × (depot.new ≡ depot.old) }
+        ensures idle { (swap_of self.old).made ≡ calls (swap_of self.old).plan
+            → (result ≡ Turn.Done) × (depot.new ≡ depot.old) }
     {
         if self.machine.is_ended() {
             return Turn::Done;

@@ -13,12 +13,15 @@ use me_disk::Depot;
 /// What a crash may leave after the first k calls stands for the old file before the install call was Ok, and for the new one
 /// from then on. All calls of a plan write together what `bytes_written` says.
 pub fn phases_settle()
-    ensures before { (p : Plan) (o : List ℕ) (k : ℕ) (i : Image) → Belongs p o → k < install_call p → Phase p o k i → Settles (Some o) i }
-    ensures after { (p : Plan) (o : List ℕ) (k : ℕ) (i : Image) → Belongs p o → install_call p ≤ k → Phase p o k i → Settles (Some (applied p o)) i }
+    ensures before { (p : Plan) (o : List ℕ) (k : ℕ) (i : Image) → Belongs p o → k < install_call p → Phase p o k i
+        → Settles (Some o) i }
+    ensures after { (p : Plan) (o : List ℕ) (k : ℕ) (i : Image) → Belongs p o → install_call p ≤ k → Phase p o k i
+        → Settles (Some (applied p o)) i }
     ensures written { (p : Plan) → CanRun p → bytes_by p (calls p) ≡ bytes_written p }
 {}
 
 /// A fresh swap of a plan for a file that stands alone is under way.
 pub fn swap_begins<D: Depot>(_depot: &D)
-    ensures { (p : Plan) (o : List ℕ) → StandsAlone o (D.disk _depot.now) → (IsTrue (D.disk _depot.now).tells → Belongs p o) → Underway (fresh p) o (D.disk _depot.now) }
+    ensures { (p : Plan) (o : List ℕ) → StandsAlone o (D.disk _depot.now)
+        → (IsTrue (D.disk _depot.now).tells → Belongs p o) → Underway (fresh p) o (D.disk _depot.now) }
 {}

@@ -223,7 +223,8 @@ impl Rewriting {
         segments: Segments,
     ) -> Result<Rewriting, NoMemory>
         requires { AddsUp new_len segments }
-        ensures parts { IfOk result (λ r. (r.parts.new_len ≡ new_len) × (r.parts.moves ≡ moves) × (r.parts.segments ≡ segments)) }
+        ensures parts { IfOk result (λ r. (r.parts.new_len ≡ new_len) × (r.parts.moves ≡ moves)
+            × (r.parts.segments ≡ segments)) }
         ensures stage { IfOk result (λ r. r.stage ≡ Stage.Start) }
         ensures sound { IfOk result IsRewriting }
     {
@@ -261,8 +262,10 @@ impl Rewriting {
         ensures buffer { length self.new.buffer.items ≡ length self.old.buffer.items }
         ensures moved { length self.new.moved.items ≡ length self.old.moved.items }
         ensures stays { held_of self.new ≡ held_of self.old }
-        ensures read { OnOk result (HasRead (step_of self.old.parts self.old.stage) self.new.buffer.items (D.disk depot.old)) }
-        ensures does { StepDoes (step_of self.old.parts self.old.stage) (held_of self.old) (D.disk depot.old) (D.disk depot.new) result }
+        ensures read { OnOk result
+            (HasRead (step_of self.old.parts self.old.stage) self.new.buffer.items (D.disk depot.old)) }
+        ensures does { StepDoes (step_of self.old.parts self.old.stage) (held_of self.old) (D.disk depot.old)
+            (D.disk depot.new) result }
         ensures counted { Counted 1 (D.calls depot.old) (D.calls depot.new) }
     {
         match self.stage {
@@ -306,10 +309,13 @@ impl Rewriting {
         requires permits { Permits (step_of self.old.parts self.old.stage) (held_of self.old) (D.disk depot.old) }
         ensures sound { IsRewriting self.new }
         ensures parts { self.new.parts ≡ self.old.parts }
-        ensures left { OnOk result (left self.old.parts self.old.stage ≡ step_of self.old.parts self.old.stage ∷ left self.new.parts self.new.stage) }
-        ensures does { StepDoes (step_of self.old.parts self.old.stage) (held_of self.old) (D.disk depot.old) (D.disk depot.new) result }
+        ensures left { OnOk result (left self.old.parts self.old.stage
+            ≡ step_of self.old.parts self.old.stage ∷ left self.new.parts self.new.stage) }
+        ensures does { StepDoes (step_of self.old.parts self.old.stage) (held_of self.old) (D.disk depot.old)
+            (D.disk depot.new) result }
         ensures counted { Counted 1 (D.calls depot.old) (D.calls depot.new) }
-        ensures holds { OnOk result (HoldsAfter (step_of self.old.parts self.old.stage) (held_of self.new) (D.disk depot.old)) }
+        ensures holds { OnOk result
+            (HoldsAfter (step_of self.old.parts self.old.stage) (held_of self.new) (D.disk depot.old)) }
         ensures stays { OnErr result ((self.new.stage ≡ self.old.stage) × (held_of self.new ≡ held_of self.old)) }
     {
         let next = self.parts.next(self.stage);

@@ -57,7 +57,8 @@ impl Swap {
         ensures underway { result ≢ Turn.Fault → Underway self.new old (D.disk depot.new) }
         ensures fault { result ≡ Turn.Fault → self.new ≡ record self.old { failed = true } }
         ensures crash { Leaves (IsNear self.old.plan old self.old.made) (D.disk depot.old) (D.disk depot.new) }
-        ensures written { TurnWrites (step_bytes (step_at self.old.plan self.old.made)) (D.disk depot.old) (D.disk depot.new) result }
+        ensures written { TurnWrites (step_bytes (step_at self.old.plan self.old.made)) (D.disk depot.old)
+            (D.disk depot.new) result }
         ensures cause { result ≡ Turn.Fault → Rose (D.disk depot.old).faults (D.disk depot.new).faults }
         ensures counted { Counted (next_calls self.old) (D.calls depot.old) (D.calls depot.new) }
         ensures idle { self.old.made ≡ calls self.old.plan → (result ≡ Turn.Done) × (depot.new ≡ depot.old) }

@@ -24,7 +24,8 @@ pub(crate) struct TableRows {
 impl TableRows {
     /// The place of a row.
     pub(crate) fn place(&self, row: u64) -> u64
-        ensures { self.now.from + width self.now.form * row < 2 ^ 64 → result ≡ self.now.from + width self.now.form * row }
+        ensures { self.now.from + width self.now.form * row < 2 ^ 64
+            → result ≡ self.now.from + width self.now.form * row }
     {
         let width = self.form.width() as u64;
         self.from.saturating_add(width.saturating_mul(row))
@@ -78,8 +79,10 @@ pub(crate) fn append_rows<D: Depot>(
     requires rows { rows ≤ 4096 }
     requires room { 65536 ≤ length buffer.now }
     requires moved_room { 65536 ≤ length moved.old }
-    requires allows { Allows (AppendWork (relocated moves.now form.now rows (take (width form.now * rows) buffer.now))) (D.disk depot.old) }
-    ensures does { Does (AppendWork (relocated moves.now form.now rows (take (width form.now * rows) buffer.now))) (D.disk depot.old) (D.disk depot.new) result }
+    requires allows { Allows (AppendWork (relocated moves.now form.now rows (take (width form.now * rows) buffer.now)))
+        (D.disk depot.old) }
+    ensures does { Does (AppendWork (relocated moves.now form.now rows (take (width form.now * rows) buffer.now)))
+        (D.disk depot.old) (D.disk depot.new) result }
     ensures counted { Counted 1 (D.calls depot.old) (D.calls depot.new) }
 {
     let held = &buffer[..form.width() * rows];

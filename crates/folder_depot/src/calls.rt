@@ -14,7 +14,8 @@ use me_folder::Folder;
 // Takes the name away, which may stand for nothing.
 fn clear<F: Folder>(folder: &mut F, name: Slot) -> Result<(), DepotFault>
     ensures cleared { Cleared name (F.tree folder.old) (F.tree folder.new) }
-    ensures gone { OnOk result (IsTrue (is_some (F.tree folder.new)) → held name (slots_of (F.tree folder.new)) ≡ None) }
+    ensures gone { OnOk result (IsTrue (is_some (F.tree folder.new))
+        → held name (slots_of (F.tree folder.new)) ≡ None) }
 {
     match folder.stands(name) {
         Ok(true) => folder.remove(name),
@@ -55,7 +56,8 @@ pub(crate) fn begin_work<F: Folder>(folder: &mut F) -> Result<(), DepotFault>
 pub(crate) fn append_work<F: Folder>(folder: &mut F, bytes: &[u8]) -> Result<(), DepotFault>
     ensures made { Makes (AppendWork bytes.now) (F.tree folder.old) (F.tree folder.new) result }
     ensures others { SameOthers (F.tree folder.old) (F.tree folder.new) }
-    ensures trusted { OnOk result (is_trusted (file_at Work (F.tree folder.new)) ≡ is_trusted (file_at Work (F.tree folder.old))) }
+    ensures trusted { OnOk result (is_trusted (file_at Work (F.tree folder.new))
+        ≡ is_trusted (file_at Work (F.tree folder.old))) }
 {
     match folder.append(Slot::Work, bytes) {
         Ok(()) => Ok(()),

@@ -56,7 +56,8 @@ impl<F: Folder + Drop> FolderDepot<F> {
         ensures written { self.new.written ≡ self.old.written }
         ensures cause { CountsFaults self.old.faults self.new.faults result }
         ensures settled { OnOk result (IsTrue self.new.settled) }
-        ensures main { OnOk result (IsTrue self.old.settled ⊎ IsTrue (is_safe (file_at Main (F.tree self.new.folder)))) }
+        ensures main { OnOk result (IsTrue self.old.settled
+            ⊎ IsTrue (is_safe (file_at Main (F.tree self.new.folder)))) }
     {
         if self.settled {
             return Ok(());
@@ -80,7 +81,9 @@ impl<F: Folder + Drop> FolderDepot<F> {
     fn install(&mut self, to: Slot) -> Result<(), DepotFault>
         requires moves { IsMove Work to }
         requires ready { self.old.state ≡ Ready }
-        ensures { Does (install_call to) (disk_of (F.tree self.old.folder) self.old.faults self.old.written self.old.state) (disk_of (F.tree self.new.folder) self.new.faults self.new.written self.new.state) result }
+        ensures { Does (install_call to)
+            (disk_of (F.tree self.old.folder) self.old.faults self.old.written self.old.state)
+            (disk_of (F.tree self.new.folder) self.new.faults self.new.written self.new.state) result }
     {
         let settled = self.settle();
         if settled.is_err() {
@@ -185,8 +188,11 @@ impl<F: Folder + Drop> Depot for FolderDepot<F> {
     }
 
     fn write_main(&mut self, at: u64, bytes: &[u8]) -> Result<(), DepotFault>
-        requires { Allows (WriteMain at bytes.now) (disk_of (F.tree self.old.folder) self.old.faults self.old.written self.old.state) }
-        ensures does { Does (WriteMain at bytes.now) (disk_of (F.tree self.old.folder) self.old.faults self.old.written self.old.state) (disk_of (F.tree self.new.folder) self.new.faults self.new.written self.new.state) result }
+        requires { Allows (WriteMain at bytes.now)
+            (disk_of (F.tree self.old.folder) self.old.faults self.old.written self.old.state) }
+        ensures does { Does (WriteMain at bytes.now)
+            (disk_of (F.tree self.old.folder) self.old.faults self.old.written self.old.state)
+            (disk_of (F.tree self.new.folder) self.new.faults self.new.written self.new.state) result }
         ensures settled { OnOk result (IsTrue (is_settled (F.tree self.new.folder))) }
     {
         self.settle()?;
@@ -203,8 +209,11 @@ impl<F: Folder + Drop> Depot for FolderDepot<F> {
     }
 
     fn set_main_len(&mut self, n: u64) -> Result<(), DepotFault>
-        requires { Allows (SetMainLen n) (disk_of (F.tree self.old.folder) self.old.faults self.old.written self.old.state) }
-        ensures does { Does (SetMainLen n) (disk_of (F.tree self.old.folder) self.old.faults self.old.written self.old.state) (disk_of (F.tree self.new.folder) self.new.faults self.new.written self.new.state) result }
+        requires { Allows (SetMainLen n)
+            (disk_of (F.tree self.old.folder) self.old.faults self.old.written self.old.state) }
+        ensures does { Does (SetMainLen n)
+            (disk_of (F.tree self.old.folder) self.old.faults self.old.written self.old.state)
+            (disk_of (F.tree self.new.folder) self.new.faults self.new.written self.new.state) result }
         ensures settled { OnOk result (IsTrue (is_settled (F.tree self.new.folder))) }
     {
         self.settle()?;

@@ -57,7 +57,8 @@ impl InfoList {
 
     /// Makes the changes one after the other. On `NoMemory` some of them may have been made.
     pub fn put_all(&mut self, alloc: Global, changes: &[InfoChange]) -> Result<(), NoMemory>
-        ensures put { OnOk result (chunks_of self.new ≡ put_all info_items (changes_of changes.now) (chunks_of self.old)) }
+        ensures put { OnOk result (chunks_of self.new
+            ≡ put_all info_items (changes_of changes.now) (chunks_of self.old)) }
         ensures rest { self.new.rest ≡ self.old.rest }
     {
         for change in changes {
@@ -128,7 +129,8 @@ fn drop_named(items: &mut Vec<InfoItem>, id: &FourCc)
 
 // The item stands where the first of its field stood, or last, and the others of that field are gone.
 fn put_item(items: &mut Vec<InfoItem>, item: InfoItem) -> Result<(), NoMemory>
-    ensures put { OnOk result (map made_of items.new.items ≡ put_value info_items item.id.0 (Some item.raw) (map made_of items.old.items)) }
+    ensures put { OnOk result (map made_of items.new.items
+        ≡ put_value info_items item.id.0 (Some item.raw) (map made_of items.old.items)) }
     ensures stays { OnErr result (items.new.items ≡ items.old.items) }
 {
     let k = first_named(items, &item.id);

@@ -11,8 +11,10 @@ ghost use Rattle.info_list.specs.declared.InfoList.{InfoList};
 ghost use Rattle.info_list.specs.Info.{IsInfo, IsSpellable, IsWithin, ReadsInfo, chunks_of, inner, item_bytes, list_chunk, pad_of, tokens_of};
 
 mod edit;
+mod fields;
 
 pub use edit::InfoChange;
+pub use fields::add_items;
 use me_bytes::put_le32;
 use part_tree::{Bytes, FourCc, NoMemory};
 use riff_form::Walker;
@@ -189,7 +191,8 @@ pub fn lists_are_edited()
         → chunks_of new ≡ put_all info_items e (chunks_of old) → new.rest ≡ old.rest → list_chunk new ≡ edit_carrier info info_items e c }
     ensures fresh { (e : List (Item (List ℕ))) (new : InfoList) → chunks_of new ≡ put_all info_items e [] → new.rest ≡ []
         → list_chunk new ≡ info.fresh (put_all info_items e []) }
-    ensures marks { (c : Chunk) (list : InfoList) → IsInfo (drop 4 c.body) list → tokens_of list ≡ items_of info info_items c }
+    ensures marks { (c : Chunk) (list : InfoList) → IsInfo (drop 4 c.body) list
+        → tokens_of list ≡ items_of info info_items c }
 {}
 
 /// What is spelled is read back: behind the word `INFO` of the spelling stand the items and the rest, whatever these are.

@@ -153,7 +153,9 @@ impl Limits {
         ensures later { self.old.faults ≤ self.new.faults }
         ensures calls { calls_left self.new ≤ calls_left self.old }
         ensures bytes { bytes_left self.new ≤ bytes_left self.old }
-        ensures room { result ≢ Fate.Undone → (calls_left self.new + 1 ≡ calls_left self.old) × (bytes_left self.new + unwrap_or piece 0 ≡ bytes_left self.old) }
+        ensures room { result ≢ Fate.Undone
+            → (calls_left self.new + 1 ≡ calls_left self.old)
+            × (bytes_left self.new + unwrap_or piece 0 ≡ bytes_left self.old) }
     {
         let fate = self.next_fate(piece);
         self.calls = self.next();

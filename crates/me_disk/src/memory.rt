@@ -79,7 +79,8 @@ impl Depot for MemoryDepot {
 
     fn read_at(&mut self, slot: Slot, at: u64, into: &mut [u8]) -> Result<(), DepotFault>
         requires { at + length into.old ≤ length (bytes_of (held slot (memory_disk self.old).slots)) }
-        ensures bytes { OnOk result (into.new ≡ take (length into.old) (drop at (bytes_of (held slot (memory_disk self.old).slots)))) }
+        ensures bytes { OnOk result (into.new
+            ≡ take (length into.old) (drop at (bytes_of (held slot (memory_disk self.old).slots)))) }
         ensures reads { ReadsOnly (memory_disk self.old) (memory_disk self.new) }
         ensures cause { HasCause (memory_disk self.old) (memory_disk self.new) result }
         ensures made { MadeRead self.old self.new result }
@@ -215,7 +216,8 @@ fn copied(alloc: Global, from: &Held, limit: usize) -> Result<Held, NoMemory>
 
 // The most bytes that a slot may come to hold, where there can be memory for as many.
 fn limit_of(main: &Held, journal: &Held, room: Room) -> Option<usize>
-    ensures { IfSome result (λ limit. (length main.now.bytes.items + room.bytes ≤ limit) × (length journal.now.bytes.items + room.bytes ≤ limit) × (room.bytes < 2 ^ 63)) }
+    ensures { IfSome result (λ limit. (length main.now.bytes.items + room.bytes ≤ limit)
+        × (length journal.now.bytes.items + room.bytes ≤ limit) × (room.bytes < 2 ^ 63)) }
 {
     let longest = main.bytes.len().max(journal.bytes.len());
     if room.bytes < 1 << 63 {

@@ -16,8 +16,11 @@ fn redo(main: &mut Held, call: Logged, piece: &[u8], left: u64) -> Option<u64>
     requires held { bytes_of (held_of main.old) ≡ main.old.bytes.items }
     requires sized { length piece.now ≡ size_of call }
     requires room { length main.old.bytes.items + length piece.now ≤ vec_capacity main.old.bytes }
-    ensures whole { IfSome result (λ rest. (main_piece (call_of call piece.now) ≤ left) × (rest ≡ left - main_piece (call_of call piece.now)) × (held_of main.new ≡ whole (call_of call piece.now) (held_of main.old))) }
-    ensures torn { IfNone result ((left < main_piece (call_of call piece.now)) × (held_of main.new ≡ torn left (call_of call piece.now) (held_of main.old))) }
+    ensures whole { IfSome result (λ rest. (main_piece (call_of call piece.now) ≤ left)
+        × (rest ≡ left - main_piece (call_of call piece.now))
+        × (held_of main.new ≡ whole (call_of call piece.now) (held_of main.old))) }
+    ensures torn { IfNone result ((left < main_piece (call_of call piece.now))
+        × (held_of main.new ≡ torn left (call_of call piece.now) (held_of main.old))) }
     ensures held { bytes_of (held_of main.new) ≡ main.new.bytes.items }
     ensures longer { length main.new.bytes.items ≤ length main.old.bytes.items + length piece.now }
     ensures room { vec_capacity main.old.bytes ≤ vec_capacity main.new.bytes }
@@ -83,7 +86,8 @@ impl Store {
     // Makes `Main` what the crash is said to have left of it.
     fn pick_main(&mut self, pick: Pick)
         requires { IsSound self.old }
-        ensures main { IsHeld self.new.main (picked pick (memory_of self.old).start (memory_of self.old).done).main self.old.limit (bytes_left self.old.limits) }
+        ensures main { IsHeld self.new.main (picked pick (memory_of self.old).start (memory_of self.old).done).main
+            self.old.limit (bytes_left self.old.limits) }
         ensures kept { self.old.limit ≤ vec_capacity self.new.kept.bytes }
         ensures rest { SameButMain self.old self.new }
     {

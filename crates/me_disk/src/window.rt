@@ -90,7 +90,8 @@ impl<const N: usize> Window<N> {
         requires whole { at + length into.old ≤ end }
         requires few { length into.old ≤ N }
         requires window { IsWindow (D.disk depot.old) self.old }
-        ensures bytes { (b : List ℕ) → Holds (D.disk depot.old) b → OnOk result (into.new ≡ take (length into.old) (drop at b)) }
+        ensures bytes { (b : List ℕ) → Holds (D.disk depot.old) b
+            → OnOk result (into.new ≡ take (length into.old) (drop at b)) }
         ensures window { IsWindow (D.disk depot.new) self.new }
         ensures reads { ReadsOnly (D.disk depot.old) (D.disk depot.new) }
         ensures cause { HasCause (D.disk depot.old) (D.disk depot.new) result }

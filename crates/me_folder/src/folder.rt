@@ -27,12 +27,14 @@ pub trait Folder {
     /// The length of the file, 0 where there is none.
     fn len(&mut self, name: Slot) -> Result<u64, DepotFault>
         ensures same { tree self.new ≡ tree self.old }
-        ensures answer { IfOk result (λ n. IsTrue (is_some (tree self.old)) → n ≡ length (bytes_of (held name (slots_of (tree self.old))))) }
+        ensures answer { IfOk result (λ n. IsTrue (is_some (tree self.old))
+            → n ≡ length (bytes_of (held name (slots_of (tree self.old))))) }
         ensures limit { IfOk result (λ n. n < 2 ^ 63) };
 
     /// Fills `into` with the file's bytes from `at` on.
     fn read_at(&mut self, name: Slot, at: u64, into: &mut [u8]) -> Result<(), DepotFault>
-        requires { IsTrue (is_some (tree self.old)) → at + length into.old ≤ length (bytes_of (held name (slots_of (tree self.old)))) }
+        requires { IsTrue (is_some (tree self.old))
+            → at + length into.old ≤ length (bytes_of (held name (slots_of (tree self.old)))) }
         ensures same { tree self.new ≡ tree self.old }
         ensures bytes { OnOk result (IsTrue (is_some (tree self.old)) → into.new ≡ take (length into.old) (drop at (bytes_of (held name (slots_of (tree self.old)))))) };
 

@@ -53,7 +53,7 @@ all_rows r (suc n) =
 
 -- ---- the parts
 
-two : (a b : List ℕ) (m n : ℕ) → length a ≡ m → length b ≡ n → length (a ++ b) ≡ m + n
+pub two : (a b : List ℕ) (m n : ℕ) → length a ≡ m → length b ≡ n → length (a ++ b) ≡ m + n
 two a b m n p q = length-append a b ∙ ap (λ (x : ℕ). x + length b) p ∙ ap (λ (x : ℕ). m + x) q
 
 names_len : (n : ℕ) → length (wave.names n) ≡ 328
@@ -61,7 +61,7 @@ names_len n =
     two (chunk (codes "bext") 631 ++ wave.description n ++ padded 32 (codes "Archive")) (zeros 32) 296 32
     (two (chunk (codes "bext") 631 ++ wave.description n) (padded 32 (codes "Archive")) 264 32 (two (chunk (codes "bext") 631) (wave.description n) 8 256 refl (length-padded 256 (codes "Reel " ++ decimal n))) (length-padded 32 (codes "Archive"))) (length-zeros 32)
 
-stamps_len : length wave.stamps ≡ 282
+pub stamps_len : length wave.stamps ≡ 282
 stamps_len = two (codes "2024-01-3112:00:00" ++ le_bytes 8 0 ++ le_bytes 2 1) (zeros 254) 28 254 refl (length-zeros 254)
 
 form_len : (n : ℕ) → length (wave.form n) ≡ 652

@@ -4,4 +4,5 @@ pub mod Makes
 pub mod Movie
 pub mod Rows
 pub mod Stated
+pub mod Titled
 pub mod Wave

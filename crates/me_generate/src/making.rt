@@ -46,7 +46,8 @@ impl From<NoMemory> for MakeFault {
 // Appends bytes.
 fn append<D: Depot>(depot: &mut D, bytes: &[u8]) -> Result<(), MakeFault>
     requires open { (D.disk depot.old).work_state ≡ Open }
-    requires fits { IsTrue (D.disk depot.old).tells → length (bytes_of (D.disk depot.old).slots.work) + length bytes.now < 2 ^ 63 }
+    requires fits { IsTrue (D.disk depot.old).tells
+        → length (bytes_of (D.disk depot.old).slots.work) + length bytes.now < 2 ^ 63 }
     ensures { Adds bytes.now (D.disk depot.old) (D.disk depot.new) result }
 {
     match depot.append_work(bytes) {
@@ -65,7 +66,8 @@ fn append_rows<D: Depot>(
 ) -> Result<(), MakeFault>
     requires rows { HasRows row n }
     requires open { (D.disk depot.old).work_state ≡ Open }
-    requires fits { IsTrue (D.disk depot.old).tells → length (bytes_of (D.disk depot.old).slots.work) + length (rows row n) < 2 ^ 63 }
+    requires fits { IsTrue (D.disk depot.old).tells
+        → length (bytes_of (D.disk depot.old).slots.work) + length (rows row n) < 2 ^ 63 }
     ensures { Adds (rows row n) (D.disk depot.old) (D.disk depot.new) result }
 {
     let mut first = 0;
@@ -89,7 +91,8 @@ fn append_all<D: Depot>(
     requires first { HasRows shape.now.first n }
     requires last { HasRows shape.now.last shape.now.lasts }
     requires open { (D.disk depot.old).work_state ≡ Open }
-    requires fits { IsTrue (D.disk depot.old).tells → length (bytes_of (D.disk depot.old).slots.work) + length (whole shape.now n) < 2 ^ 63 }
+    requires fits { IsTrue (D.disk depot.old).tells
+        → length (bytes_of (D.disk depot.old).slots.work) + length (whole shape.now n) < 2 ^ 63 }
     ensures { Adds (whole shape.now n) (D.disk depot.old) (D.disk depot.new) result }
 {
     let mut page = Vec::new(alloc);

@@ -1,2 +1,3 @@
 mod Fills
 mod Rest
+mod Tracks

@@ -25,7 +25,8 @@ fn hash_block<D: Depot>(
     block: &mut [u8],
 ) -> Result<(), DepotFault>
     requires inside { Inside (at + length block.old) (D.disk depot.old) }
-    ensures message { (b m : List ℕ) → Holds (D.disk depot.old) b → HasMessage hasher.old m → OnOk result (HasMessage hasher.new (m ++ take (length block.old) (drop at b))) }
+    ensures message { (b m : List ℕ) → Holds (D.disk depot.old) b → HasMessage hasher.old m
+        → OnOk result (HasMessage hasher.new (m ++ take (length block.old) (drop at b))) }
     ensures reads { ReadsOnly (D.disk depot.old) (D.disk depot.new) }
     ensures cause { HasCause (D.disk depot.old) (D.disk depot.new) result }
 {
@@ -42,7 +43,8 @@ fn hash_block<D: Depot>(
 pub fn sound_md5<D: Depot>(depot: &mut D, sound: Span) -> Result<[u8; 16], DepotFault>
     requires inside { Inside (sound.at + sound.len) (D.disk depot.old) }
     requires small { sound.at + sound.len < 2 ^ 63 }
-    ensures digest { (b : List ℕ) → Holds (D.disk depot.old) b → IfOk result (λ digest. digest ≡ md5 (take sound.len (drop sound.at b))) }
+    ensures digest { (b : List ℕ) → Holds (D.disk depot.old) b
+        → IfOk result (λ digest. digest ≡ md5 (take sound.len (drop sound.at b))) }
     ensures reads { ReadsOnly (D.disk depot.old) (D.disk depot.new) }
     ensures cause { HasCause (D.disk depot.old) (D.disk depot.new) result }
 {

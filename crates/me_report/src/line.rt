@@ -53,8 +53,8 @@ impl Line {
     }
 }
 
-/// What a run did: whether an item of the edit had an effect and the file was changed in place, the length of the sound or
-/// pictures in bytes, and how many findings there were.
+/// What a run did: whether an item of the edit had an effect and the file was changed in place, the length of the
+/// sound or pictures in bytes, and how many findings there were.
 #[derive(Clone, Copy, Debug, PartialEq, Eq)]
 pub struct Summary {
     pub changed: bool,

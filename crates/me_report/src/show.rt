@@ -1,18 +1,23 @@
 // What is shown of a file.
-ghost use Rattle.std.specs.Prelude.{◌≡◌, ◌++◌, ◌≤◌, [], IfOk, OnOk, Err};
+ghost use Rattle.std.specs.Prelude.{◌≡◌, ◌++◌, ℕ, List, IfOk, OnOk, Err};
+ghost use Rattle.std.specs.List.{AllByRecursion};
 ghost use Rattle.part_tree.specs.Fields.{values};
 ghost use Rattle.field_model.specs.KindFacts.{facts};
 ghost use Rattle.field_model.specs.Lawful.{FillsName, IsLawful};
 ghost use Rattle.me_disk.specs.Causes.{Rose};
+ghost use Rattle.me_disk.specs.Holds.{Holds};
 ghost use Rattle.me_disk.specs.Steps.{ReadsOnly};
-ghost use Rattle.me_report.specs.Report.{all_lines, field_lines, index_line, kind_line, show_report, text_line, value_line};
+ghost use Rattle.part_tree.specs.Ranges.{Ascends};
+ghost use Rattle.track_samples.specs.Places.{AllInside, TablesLie};
+ghost use Rattle.me_report.specs.Report.{all_lines, counted_line, field_lines, head_lines, index_line, kind_line, show_report, text_line, track_lines, value_line};
 
-use crate::text::{put, put_count, put_name};
+use crate::text::{put, put_count, put_name, put_number};
 use core_edit::shown;
 use escapes::escape;
 use me_disk::Depot;
-use part_tree::{Bytes, FieldName, Fields, Kind, NoMemory, Shows, Value};
+use part_tree::{Bytes, FieldName, Fields, Kind, NoMemory, Shows, Span, Track, Value};
 use std::alloc::Global;
+use track_samples::{TrackCounts, count_track};
 
 /// Why a file isn't shown.
 #[derive(Clone, Copy, Debug, PartialEq, Eq)]
@@ -108,38 +113,91 @@ fn put_fields(alloc: Global, out: &mut Vec<u8>, fields: &Fields) -> Result<(), N
     Ok(())
 }
 
-// What a map without tracks shows.
-fn map_text<M: Shows>(alloc: Global, map: &M) -> Result<Bytes, NoMemory>
-    requires { IsLawful (values (M.told map.now).fields) }
-    ensures { IfOk result (λ text. text ≡ show_report (M.told map.now)) }
+// Appends the kind, the length of the sound or pictures, and the counted entries of indexes.
+fn put_head<M: Shows>(out: &mut Vec<u8>, map: &M) -> Result<(), NoMemory>
+    ensures { OnOk result (out.new.items ≡ out.old.items ++ head_lines (M.told map.now)) }
 {
-    let mut out = Vec::new(alloc);
-    put_kind(&mut out, map.kind())?;
-    put_count(&mut out, b"essence ", map.payload())?;
-    put_entries(&mut out, map.entries())?;
-    put_fields(alloc, &mut out, map.fields())?;
-    Ok(Bytes::of(out))
+    put_kind(out, map.kind())?;
+    put_count(out, b"essence ", map.payload())?;
+    put_entries(out, map.entries())
 }
 
-/// What a file shows: its kind, the length of its sound or pictures, the counted entries of its indexes, and a line for
-/// each value that shows a text, in field order. A map with tracks isn't taken yet: their lines are missing.
+// Appends the line of a track.
+fn put_track(out: &mut Vec<u8>, number: u64, counts: &TrackCounts) -> Result<(), NoMemory>
+    ensures { OnOk result (out.new.items
+        ≡ out.old.items ++ counted_line number counts.now.chunks counts.now.samples) }
+{
+    put(out, b"track ")?;
+    put_number(out, number)?;
+    put(out, b" chunks ")?;
+    put_number(out, u64::from(counts.chunks))?;
+    put(out, b" samples ")?;
+    put_number(out, u64::from(counts.samples))?;
+    put(out, b"\n")
+}
+
+// Appends the lines of the tracks of a file, whose samples these bodies hold.
+fn put_tracks<D: Depot>(
+    out: &mut Vec<u8>,
+    depot: &mut D,
+    tracks: &[Track],
+    bodies: &[Span],
+) -> Result<(), ReportFault>
+    requires order { Ascends 0 bodies.now }
+    requires inside { AllInside (D.disk depot.old) bodies.now }
+    requires tables { AllByRecursion (TablesLie (D.disk depot.old)) tracks.now }
+    ensures lines { (b : List ℕ) → Holds (D.disk depot.old) b
+        → OnOk result (out.new.items ≡ out.old.items ++ track_lines b bodies.now 1 tracks.now) }
+    ensures reads { ReadsOnly (D.disk depot.old) (D.disk depot.new) }
+    ensures cause { result ≡ Err ReportFault.Depot → Rose (D.disk depot.old).faults (D.disk depot.new).faults }
+{
+    let mut number: u64 = 1;
+    'tracks: for track in tracks {
+        let counts = match count_track(depot, track, bodies) {
+            Err(_) => return Err(ReportFault::Depot),
+            Ok(counts) => counts,
+        };
+        match put_track(out, number, &counts) {
+            Err(_) => return Err(ReportFault::Memory),
+            Ok(()) => {}
+        }
+        number += 1;
+    }
+    Ok(())
+}
+
+/// What a file shows: its kind, the length of its sound or pictures, the counted entries of its indexes, for each track how many
+/// chunks it has and how many samples that lie in the `mdat` of their chunk, and a line for each value that shows a text, in field
+/// order.
 ///
 /// # Errors
 ///
-/// `Memory` where there is none for the text. `Depot` isn't answered yet.
+/// `Memory` where there is none for the text. `Depot` only where the count of the depot's faults rose.
 pub fn show_text<D: Depot, M: Shows>(
     alloc: Global,
     depot: &mut D,
     map: &M,
 ) -> Result<Bytes, ReportFault>
     requires lawful { IsLawful (values (M.told map.now).fields) }
-    requires tracks { (M.told map.now).tracks ≡ [] }
-    ensures text { IfOk result (λ text. text ≡ show_report (M.told map.now)) }
+    requires order { Ascends 0 (M.told map.now).mdats }
+    requires inside { AllInside (D.disk depot.old) (M.told map.now).mdats }
+    requires tables { AllByRecursion (TablesLie (D.disk depot.old)) (M.told map.now).tracks }
+    ensures text { (b : List ℕ) → Holds (D.disk depot.old) b
+        → IfOk result (λ text. text ≡ show_report b (M.told map.now)) }
     ensures reads { ReadsOnly (D.disk depot.old) (D.disk depot.new) }
     ensures cause { result ≡ Err ReportFault.Depot → Rose (D.disk depot.old).faults (D.disk depot.new).faults }
 {
-    match map_text(alloc, map) {
-        Ok(text) => Ok(text),
+    let mut out = Vec::new(alloc);
+    match put_head(&mut out, map) {
+        Err(_) => return Err(ReportFault::Memory),
+        Ok(()) => {}
+    }
+    match put_tracks(&mut out, depot, map.tracks(), map.mdats()) {
+        Err(fault) => return Err(fault),
+        Ok(()) => {}
+    }
+    match put_fields(alloc, &mut out, map.fields()) {
         Err(_) => Err(ReportFault::Memory),
+        Ok(()) => Ok(Bytes::of(out)),
     }
 }

@@ -1,5 +1,5 @@
 // Bytes put one after the other.
-ghost use Rattle.std.specs.Prelude.{◌≡◌, ◌++◌, OnOk};
+ghost use Rattle.std.specs.Prelude.{◌≡◌, ◌++◌, OnOk, decimal};
 ghost use Rattle.field_model.specs.Texts as spec;
 ghost use Rattle.me_report.specs.Lines.{count_line, hex_line, or_nothing};
 
@@ -14,6 +14,14 @@ pub(crate) fn put(out: &mut Vec<u8>, bytes: &[u8]) -> Result<(), NoMemory>
 {
     out.extend_from_slice(bytes)?;
     Ok(())
+}
+
+/// Appends a number in decimal.
+pub(crate) fn put_number(out: &mut Vec<u8>, n: u64) -> Result<(), NoMemory>
+    ensures { OnOk result (out.new.items ≡ out.old.items ++ decimal n) }
+{
+    let mut buffer = Buffer::new();
+    put(out, buffer.format(n).as_bytes())
 }
 
 /// Appends a word and a number in decimal, as a line.

@@ -1,6 +1,6 @@
 -- What is told of a file that is only read.
-use Rattle.std.proofs.Common.{◌≡◌, ℕ, ◌+◌, List, [], length, ◌++◌, Bool, true, false, Option, Some, None, Ok, sym, ap, ◌∙◌, subst}
-use Rattle.std.specs.Prelude.{codes, IsTrue, IfSome}
+use Rattle.std.proofs.Common.{◌≡◌, ℕ, ◌+◌, List, [], length, ◌++◌, Bool, true, false, Option, Some, None, Ok, sym, ap, ◌∙◌, subst, inl, inr}
+use Rattle.std.specs.Prelude.{◌⊎◌, ◌∷◌, IsTrue, IfSome}
 use Rattle.std.proofs.Math.Path.{fun_ext}
 use Rattle.me_bytes.specs.Bytes.{IsBytes}
 use Rattle.me_disk.specs.Disk.{Disk, IsLawful, bytes_of}
@@ -11,14 +11,17 @@ use Rattle.part_tree.specs.declared.field.RuleSet.{RuleSet}
 use Rattle.part_tree.specs.declared.names.Kind.{Kind}
 use Rattle.part_tree.specs.declared.names.Span.{Span}
 use Rattle.part_tree.specs.declared.fields.Entry.{Entry}
+use Rattle.part_tree.specs.declared.shows.Track.{Track}
+use Rattle.part_tree.specs.Shows.{Told}
+use Rattle.std.specs.List.{AllByRecursion}
+use Rattle.track_samples.specs.Places.{Lies, TablesLie}
 use Rattle.part_tree.specs.Fields.{IsMap, values}
 use Rattle.field_model.specs.Broken.{findings}
 use Rattle.field_model.specs.Fields.{FieldMap}
 use Rattle.me_report.specs.declared.line.Summary.{Summary}
 use Rattle.me_report.specs.Checksums.{checksum_text, finding_count}
 use Rattle.me_report.specs.Findings.{findings_text}
-use Rattle.me_report.specs.Lines.{count_line}
-use Rattle.me_report.specs.Report.{all_lines, index_line, kind_line, show_report}
+use Rattle.me_report.specs.Report.{show_report}
 use Rattle.edit_planner.specs.declared.plans.FileMap.{FileMap}
 use Rattle.edit_planner.specs.Facts.{IsRead, TellsOf, hashed_in}
 use Rattle.edit_planner.specs.Kinds.{model_in}
@@ -46,16 +49,37 @@ found_is o m rules is =
     ∙ ap (λ (n : ℕ). findings ((model_in o).kind o) n (fields_in m) [] rules) is.streams
     ∙ ap (λ (f : FieldMap). findings ((model_in o).kind o) ((model_in o).streams o) f [] rules) (same_fields o m is)
 
+abbrev told_as : Kind → ℕ → List Entry → Option ℕ → List Track → List Span → Told
+told_as k n es x ts bs = record { kind = k; payload = n; fields = es; entries = x; tracks = ts; mdats = bs }
+
+-- where there are no tracks, no body is told of
+other_bodies : (o : List ℕ) (k : Kind) (n : ℕ) (es : List Entry) (x : Option ℕ) (ts : List Track) (bs cs : List Span) → ts ≡ []
+    → show_report o (told_as k n es x ts bs) ≡ show_report o (told_as k n es x ts cs)
+other_bodies o k n es x ts bs cs none =
+    ap (λ (us : List Track). show_report o (told_as k n es x us bs)) none
+    ∙ sym (ap (λ (us : List Track). show_report o (told_as k n es x us cs)) none)
+
+same_bodies : (o : List ℕ) (k : Kind) (n : ℕ) (es : List Entry) (x : Option ℕ) (ts : List Track) (bs cs : List Span) → (ts ≡ []) ⊎ (bs ≡ cs)
+    → show_report o (told_as k n es x ts bs) ≡ show_report o (told_as k n es x ts cs)
+same_bodies o k n es x ts bs cs (inl none) = other_bodies o k n es x ts bs cs none
+same_bodies o k n es x ts bs cs (inr same) = ap (λ (ss : List Span). show_report o (told_as k n es x ts ss)) same
+
 -- what the map shows is shown of the file
-shown_is : (o : List ℕ) (m : FileMap) (text : List ℕ) → TellsOf (model_in o) o m × IsMap (told_in m).fields → text ≡ show_report (told_in m) → Shows o text
-shown_is o m text is shown = record {
-  fields = (told_in m).fields;
-  lists = record { ordered = is.1; same = is.0.fields };
-  is = shown
-      ∙ ap (λ (k : Kind). kind_line k ++ (count_line (codes "essence ") (told_in m).payload ++ (index_line (told_in m).entries ++ all_lines (told_in m).fields))) is.0.kind
-      ∙ ap (λ (n : ℕ). kind_line ((model_in o).kind o) ++ (count_line (codes "essence ") n ++ (index_line (told_in m).entries ++ all_lines (told_in m).fields))) is.0.payload
-      ∙ ap (λ (x : Option ℕ). kind_line ((model_in o).kind o) ++ (count_line (codes "essence ") (payload o) ++ (index_line x ++ all_lines (told_in m).fields))) is.0.entries;
-}
+shown_is : (o : List ℕ) (m : FileMap) (text : List ℕ) → TellsOf (model_in o) o m × IsMap (told_in m).fields → text ≡ show_report o (told_in m) → Shows o text
+unfolding same_bodies
+shown_is o m text is shown =
+    let t = told_in m in
+    let k = model_in o in
+    record {
+      fields = t.fields;
+      lists = record { ordered = is.1; same = is.0.fields };
+      is = shown
+          ∙ ap (λ (x : Kind). show_report o (told_as x t.payload t.fields t.entries t.tracks t.mdats)) is.0.kind
+          ∙ ap (λ (n : ℕ). show_report o (told_as (k.kind o) n t.fields t.entries t.tracks t.mdats)) is.0.payload
+          ∙ ap (λ (x : Option ℕ). show_report o (told_as (k.kind o) (payload o) t.fields x t.tracks t.mdats)) is.0.entries
+          ∙ same_bodies o (k.kind o) (payload o) t.fields (k.entries o) t.tracks t.mdats (k.essence o) is.0.bodies
+          ∙ ap (λ (ts : List Track). show_report o (told_as (k.kind o) (payload o) t.fields (k.entries o) ts (k.essence o))) is.0.tracks;
+    }
 
 module _ (q : Request) (stood : Bool) (a b : Disk) (m : FileMap) (of : IsRead a m) (reads : ReadsOnly a b) (settled : IsSettled a) (lawful : IsLawful b) (f : Finished) where
   accepted : (c : Command) → ((o : List ℕ) → why_in o ≡ None → AcceptsBy c q.rules q.edit o) → q.command ≡ c → (o : List ℕ) → Holds a o → AcceptsBy q.command q.rules q.edit o
@@ -67,14 +91,14 @@ module _ (q : Request) (stood : Bool) (a b : Disk) (m : FileMap) (of : IsRead a 
     report_is = subst (λ (d : Command). ReportsBy d q o stood f.text) (sym is) text;
   }
 
-  pub show_acts : q.command ≡ command.Show → f.summary ≡ look_summary (told_in m).payload 0 → f.text ≡ show_report (told_in m) → Acts q stood a b (Ok f)
+  pub show_acts : q.command ≡ command.Show → f.summary ≡ look_summary (told_in m).payload 0 → ((o : List ℕ) → Holds a o → f.text ≡ show_report o (told_in m)) → Acts q stood a b (Ok f)
   unfolding accepted told shown_is unedited
   show_acts is summary text =
       looks q stood a b reads f (ap edits_file is) lawful settled
       (subst (λ (c : Command). Fixes c f.summary) (sym is) (unedited f.summary _ _ summary, ap (λ (s : Summary). s.findings) summary))
       (λ o held bytes. (
         accepted command.Show (λ o h. h) is o held,
-        told command.Show is o (summary ∙ ap (λ (n : ℕ). look_summary n 0) (of.tells o held).payload) (shown_is o m f.text (of.tells o held, of.ordered) text),
+        told command.Show is o (summary ∙ ap (λ (n : ℕ). look_summary n 0) (of.tells o held).payload) (shown_is o m f.text (of.tells o held, of.ordered) (text o held)),
       ))
 
   pub validate_acts : q.command ≡ command.Validate
@@ -118,6 +142,20 @@ inside_on : (a b : Disk) (x : Option Span) → ReadsOnly a b → IfSome x (λ s.
 inside_on a b None reads h = tt
 inside_on a b (Some s) reads h = λ o held. h o (held_before a b o reads held)
 
+lies_on : (a b : Disk) (s : Span) → ReadsOnly a b → Lies a s → Lies b s
+lies_on a b s reads h = record { inside = λ o held. h.inside o (held_before a b o reads held); small = h.small }
+
+may_lie_on : (a b : Disk) (x : Option Span) → ReadsOnly a b → IfSome x (Lies a) → IfSome x (Lies b)
+may_lie_on a b None reads h = tt
+may_lie_on a b (Some s) reads h = lies_on a b s reads h
+
+tables_on : (a b : Disk) (ts : List Track) → ReadsOnly a b → AllByRecursion (TablesLie a) ts → AllByRecursion (TablesLie b) ts
+tables_on a b [] reads h = tt
+tables_on a b (t ∷ ts) reads h = (
+  record { chunks = lies_on a b t.chunks reads h.0.chunks; runs = may_lie_on a b t.stsc reads h.0.runs; sizes = may_lie_on a b t.stsz reads h.0.sizes },
+  tables_on a b ts reads h.1,
+)
+
 pub still_read : (a b : Disk) (m : FileMap) → ReadsOnly a b → IsRead a m → IsRead b m
 still_read a b m reads of = record {
   mapped = λ o held. of.mapped o (held_before a b o reads held);
@@ -127,6 +165,10 @@ still_read a b m reads of = record {
   ordered = of.ordered;
   inside = inside_on a b (hashed_in m) reads of.inside;
   small = of.small;
+  editable = λ o held. of.editable o (held_before a b o reads held);
+  bodies_ascend = of.bodies_ascend;
+  bodies_inside = λ o held. of.bodies_inside o (held_before a b o reads held);
+  tables = tables_on a b (told_in m).tracks reads of.tables;
 }
 
 -- what the map's own answers break

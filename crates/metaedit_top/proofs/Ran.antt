@@ -1,6 +1,7 @@
 -- A run from its start over a recovery: at first, when the file is settled, and at the end.
-use Rattle.std.proofs.Common.{◌≡◌, ℕ, ◌+◌, List, Bool, true, Option, Some, None, Result, Ok, Err, refl, sym, ap, ◌∙◌, subst, arith, inl, ⊎_elim}
-use Rattle.std.specs.Prelude.{IsTrue, IsSome, is_some, ◌⊎◌, IfOk, IfErr}
+use Rattle.std.proofs.Common.{◌≡◌, ℕ, ◌+◌, ◌≤◌, List, Bool, true, false, cond, Option, Some, None, Result, Ok, Err, refl, sym, ap, ◌∙◌, subst, arith, inl, ⊎_elim}
+use Rattle.std.specs.Prelude.{IsTrue, IsSome, is_some, nat_lt, ◌⊎◌}
+use Rattle.std.proofs.lemmas.Bool.{ltb-false, ltb-true}
 use Rattle.me_bytes.specs.Bytes.{IsBytes}
 use Rattle.me_disk.specs.Causes.{Rose}
 use Rattle.me_disk.specs.Disk.{Image, Disk, IsLawful, Only, Leaves, read_as, bytes_of}
@@ -19,9 +20,9 @@ use Rattle.metaedit_top.specs.declared.outcome.Finished.{Finished}
 use Rattle.metaedit_top.specs.declared.outcome.Stop.{Stop}
 use Rattle.metaedit_top.specs.declared.outcome.Stop.TheVariants as stop
 use Rattle.metaedit_top.specs.declared.words.Request.{Request}
-use Rattle.metaedit_top.specs.Run.{AreBytes, HasRun, HasTold, HasSettled, IsOneStop, LeavesAt, MayLeave, MayStand, OnFile, StandsNew, Stops}
-use Rattle.metaedit_top.specs.Stage.{ActLeaves, ActStops, Acts, HasActed, OnHeld, IsSettled, stop_of_recovery}
-use Rattle.metaedit_top.specs.Told.{Fixes, was_redone}
+use Rattle.metaedit_top.specs.Run.{AreBytes, HasRun, HasTold, HasSettled, IsOneStop, LeavesAt, MayLeave, MayStand, OnFile, Runs, StandsNew, Stops}
+use Rattle.metaedit_top.specs.Stage.{ActLeaves, ActStops, Acts, HasActed, OnHeld, IsSettled, counted, stop_of_recovery}
+use Rattle.metaedit_top.specs.Told.{was_redone}
 use Rattle.metaedit_top.proofs.Acted.{alone_only, alone_on}
 
 -- a journal stood there where one was redone
@@ -80,15 +81,21 @@ module _ (q : Request) (a b c : Disk) (rec : Recovers a b) (crash : Leaves (Sett
   on_file : (P : List ℕ → Type 0) → OnHeld b P → OnFile a P
   on_file P held = λ tells. (bytes_of b.slots.main, rec.settles tells, held (bytes_of b.slots.main) (holds tells))
 
-  stops : (s : Stop) → ActStops q b c s → Stops q a c s
-  unfolding on_file
-  stops stop.Depot h = rose_sooner a.faults b.faults c.faults crash.faults h
-  stops stop.NoFile h = absurd h
-  stops (stop.Damaged at) h = absurd h
-  stops (stop.NotSupported w) h = (h.0, on_file _ h.1)
-  stops (stop.RuleBroken w) h = (h.0, on_file _ h.1)
-  stops (stop.TooLarge size limit) h = (h.0, on_file _ h.1)
-  stops stop.Memory h = tt
+  -- a count that isn't lower than before is higher, or the same
+  memory_stops : (t : Bool) → nat_lt a.faults c.faults ≡ t → a.faults ≤ c.faults → Stops q a c (cond t stop.Depot stop.Memory)
+  memory_stops true e later = let more = ltb-true a.faults c.faults e in omega (arith, more)
+  memory_stops false e later = let least = ltb-false a.faults c.faults e in omega (arith, least, later)
+
+  stops : (s : Stop) → a.faults ≤ c.faults → ActStops q b c s → Stops q a c (counted a.faults c.faults s)
+  unfolding on_file memory_stops
+  stops stop.Depot later h = rose_sooner a.faults b.faults c.faults crash.faults h
+  stops stop.NoFile later h = absurd h
+  stops stop.FileThere later h = absurd h
+  stops (stop.Damaged at) later h = absurd h
+  stops (stop.NotSupported w) later h = (h.0, on_file _ h.1)
+  stops (stop.RuleBroken w) later h = (h.0, on_file _ h.1)
+  stops (stop.TooLarge size limit) later h = (h.0, on_file _ h.1)
+  stops stop.Memory later h = memory_stops (nat_lt a.faults c.faults) refl later
 
   has_settled : ReadsOnly b c → HasSettled a c
   has_settled reads = record {
@@ -108,28 +115,38 @@ module _ (q : Request) (a b c : Disk) (rec : Recovers a b) (crash : Leaves (Sett
       some_bytes : {x y : List ℕ} → Some x ≡ Some y → x ≡ y
       some_bytes e = ap bytes_of e
 
-  leaves : (s : Stop) → ActStops q b c s → ActLeaves q b c s → LeavesAt q a c s
-  unfolding has_settled once
+  memory_leaves : (t : Bool) → HasSettled a c → LeavesAt q a c (cond t stop.Depot stop.Memory)
+  memory_leaves true h = λ o tells settles bytes. let w = h.written tells in omega (arith, w)
+  memory_leaves false h = h
+
+  leaves : (s : Stop) → ActStops q b c s → ActLeaves q b c s → LeavesAt q a c (counted a.faults c.faults s)
+  unfolding has_settled once memory_leaves
   leaves stop.Depot why h = λ o tells settles bytes. let most = h o (once o tells settles) bytes in let w = wrote tells in omega (arith, most, w)
   leaves stop.NoFile why h = absurd why
+  leaves stop.FileThere why h = absurd why
   leaves (stop.Damaged at) why h = absurd why
   leaves (stop.NotSupported w) why h = has_settled h
   leaves (stop.RuleBroken w) why h = has_settled h
   leaves (stop.TooLarge size limit) why h = has_settled h
-  leaves stop.Memory why h = has_settled h
+  leaves stop.Memory why h = memory_leaves (nat_lt a.faults c.faults) (has_settled h)
 
   one_read_alone : IsLawful c → ReadsOnly b c → Only (read_as c.slots) c
   one_read_alone lawful h = alone_only (bytes_of b.slots.main) c lawful (alone_on (bytes_of b.slots.main) b c h rec.alone)
 
-  one_stop : IsLawful c → (s : Stop) → ActLeaves q b c s → IsOneStop s c
-  unfolding one_read_alone
+  memory_one : (t : Bool) → Only (read_as c.slots) c → IsOneStop (cond t stop.Depot stop.Memory) c
+  memory_one true one = tt
+  memory_one false one = one
+
+  one_stop : IsLawful c → (s : Stop) → ActLeaves q b c s → IsOneStop (counted a.faults c.faults s) c
+  unfolding one_read_alone memory_one
   one_stop lawful stop.Depot h = tt
   one_stop lawful stop.NoFile h = one_read_alone lawful h
+  one_stop lawful stop.FileThere h = one_read_alone lawful h
   one_stop lawful (stop.Damaged at) h = one_read_alone lawful h
   one_stop lawful (stop.NotSupported w) h = one_read_alone lawful h
   one_stop lawful (stop.RuleBroken w) h = one_read_alone lawful h
   one_stop lawful (stop.TooLarge size limit) h = one_read_alone lawful h
-  one_stop lawful stop.Memory h = one_read_alone lawful h
+  one_stop lawful stop.Memory h = memory_one (nat_lt a.faults c.faults) (one_read_alone lawful h)
 
   may_file : (i : Image) → MayLeave q b i → IsTrue a.tells → (f : Option (List ℕ)) → Settles f (read_as a.slots) → AreBytes f → Settles f i ⊎ StandsNew q f i
   unfolding once
@@ -143,32 +160,43 @@ module _ (q : Request) (a b c : Disk) (rec : Recovers a b) (crash : Leaves (Sett
   unfolding may_file
   may_stand since act i h = ⊎_elim (λ before. alike_may q a i (since i before)) (λ may. may_file i may) (act.each a.clock i crash.clock h)
 
-  -- ---- by cases on the answer
+  -- ---- by the answer
 
-  pub ran_ends : (redone : Bool) → (IsTrue a.tells → redone ≡ is_some a.slots.journal) → (r : Result Finished Stop) → Acts q redone b c r
-      → IfOk r (λ f. OnFile a (λ o. IsBytes o → HasRun q o (bytes_to_redo (read_as a.slots)) a c × HasTold q o (is_some a.slots.journal) f))
-  unfolding ends_so
-  ran_ends redone was (Ok f) h = ends_so redone f was h.acts
-  ran_ends redone was (Err s) h = tt
+  later : Leaves (MayLeave q b) b c → a.faults ≤ c.faults
+  later act = let first = crash.faults in let second = act.faults in omega (arith, first, second)
 
-  pub ran_fixes : (redone : Bool) (r : Result Finished Stop) → Acts q redone b c r → IfOk r (λ f. Fixes q.command f.summary)
-  ran_fixes redone (Ok f) h = h.fixes
-  ran_fixes redone (Err s) h = tt
+  pub ran_done : (redone : Bool) (f : Finished) → (IsTrue a.tells → redone ≡ is_some a.slots.journal)
+      → ((i : Image) → b.since a.clock i → SettlesAlike (read_as a.slots) i) → Acts q redone b c (Ok f) → Runs q a c (Ok f)
+  unfolding ends_so may_stand later
+  ran_done redone f was since acts = record {
+    ends = ends_so redone f was acts.acts;
+    fixes = acts.fixes;
+    stops = tt;
+    leaves = tt;
+    crash = may_stand since acts.crash;
+    damaged = λ tells damaged. absurd (not_settled a b tells damaged rec);
+    again_done = acts.again;
+    again = tt;
+    tells = acts.crash.tells ∙ crash.tells;
+    later = later acts.crash;
+  }
 
-  pub ran_stops : (redone : Bool) (r : Result Finished Stop) → Acts q redone b c r → IfErr r (Stops q a c)
-  unfolding stops
-  ran_stops redone (Ok f) h = tt
-  ran_stops redone (Err s) h = stops s h.stops
-
-  pub ran_leaves : (redone : Bool) (r : Result Finished Stop) → Acts q redone b c r → IfErr r (LeavesAt q a c)
-  unfolding leaves
-  ran_leaves redone (Ok f) h = tt
-  ran_leaves redone (Err s) h = leaves s h.stops h.leaves
-
-  pub ran_one : IsLawful c → (redone : Bool) (r : Result Finished Stop) → Acts q redone b c r → IfErr r (λ s. IsOneStop s c)
-  unfolding one_stop
-  ran_one lawful redone (Ok f) h = tt
-  ran_one lawful redone (Err s) h = one_stop lawful s h.leaves
+  -- the stop that is told of an act that stopped
+  pub ran_stopped : (redone : Bool) (s t : Stop) → t ≡ counted a.faults c.faults s → IsLawful c
+      → ((i : Image) → b.since a.clock i → SettlesAlike (read_as a.slots) i) → Acts q redone b c (Err s) → Runs q a c (Err t)
+  unfolding stops leaves one_stop may_stand later
+  ran_stopped redone s t told lawful since acts = subst (λ (u : Stop). Runs q a c (Err u)) (sym told) (record {
+    ends = tt;
+    fixes = tt;
+    stops = stops s (later acts.crash) acts.stops;
+    leaves = leaves s acts.stops acts.leaves;
+    crash = may_stand since acts.crash;
+    damaged = λ tells damaged. absurd (not_settled a b tells damaged rec);
+    again_done = tt;
+    again = one_stop lawful s acts.leaves;
+    tells = acts.crash.tells ∙ crash.tells;
+    later = later acts.crash;
+  })
 
 pub wrote_exact : (a b : Disk) (r : Recovered) → (IsTrue a.tells → RecoverWrites (bytes_to_redo (read_as a.slots)) a b (Ok r)) → IsTrue a.tells → b.written ≡ a.written + bytes_to_redo (read_as a.slots)
 wrote_exact a b r writes tells = (writes tells).exact no_fault
@@ -196,16 +224,24 @@ module _ (q : Request) (a b : Disk) where
   refused_one (fault.Damaged at) one refusal = one_read a b one (refusal tt)
   refused_one fault.Depot one refusal = tt
 
-  pub stop_stops : (f : RecoverFault) (s : Stop) → s ≡ stop_of_recovery f → (◌≡◌ {A = Result Recovered RecoverFault} (Err f) (Err fault.NoFile) → IsTrue a.tells → a.slots.main ≡ None)
-      → OnRecoverDamage f (λ (at : ℕ). IsTrue a.tells → IsBroken a.slots at) → (◌≡◌ {A = Result Recovered RecoverFault} (Err f) (Err fault.Depot) → Rose a.faults b.faults)
-      → Stops q a b s
-  unfolding refused_stops
-  stop_stops f s is none damaged cause = subst (Stops q a b) (sym is) (refused_stops f none damaged cause)
-
-  pub stop_leaves : (f : RecoverFault) (s : Stop) → s ≡ stop_of_recovery f → (IsRefusal f → ReadsOnly a b) → (IsTrue a.tells → RecoverWrites (bytes_to_redo (read_as a.slots)) a b (Err f)) → LeavesAt q a b s
-  unfolding refused_leaves
-  stop_leaves f s is refusal writes = subst (LeavesAt q a b) (sym is) (refused_leaves f refusal writes)
-
-  pub stop_one : (f : RecoverFault) (s : Stop) → s ≡ stop_of_recovery f → Only (read_as a.slots) a → (IsRefusal f → ReadsOnly a b) → IsOneStop s b
-  unfolding refused_one
-  stop_one f s is one refusal = subst (λ (t : Stop). IsOneStop t b) (sym is) (refused_one f one refusal)
+  pub ran_refused : (f : RecoverFault) (s : Stop) → s ≡ stop_of_recovery f
+      → (◌≡◌ {A = Result Recovered RecoverFault} (Err f) (Err fault.NoFile) → IsTrue a.tells → a.slots.main ≡ None)
+      → OnRecoverDamage f (λ (at : ℕ). IsTrue a.tells → IsBroken a.slots at)
+      → (◌≡◌ {A = Result Recovered RecoverFault} (Err f) (Err fault.Depot) → Rose a.faults b.faults)
+      → (IsRefusal f → ReadsOnly a b) → (IsTrue a.tells → RecoverWrites (bytes_to_redo (read_as a.slots)) a b (Err f))
+      → (IsTrue a.tells → IsDamaged (read_as a.slots) → ReadsOnly a b)
+      → ((i : Image) → b.since a.clock i → SettlesAlike (read_as a.slots) i) → Leaves (SettlesAlike (read_as a.slots)) a b
+      → Only (read_as a.slots) a → Runs q a b (Err s)
+  unfolding refused_stops refused_leaves refused_one
+  ran_refused f s is none damage cause refusal writes damaged since crash one = subst (λ (t : Stop). Runs q a b (Err t)) (sym is) (record {
+    ends = tt;
+    fixes = tt;
+    stops = refused_stops f none damage cause;
+    leaves = refused_leaves f refusal writes;
+    crash = λ i h. alike_may q a i (since i h);
+    damaged = damaged;
+    again_done = tt;
+    again = refused_one f one refusal;
+    tells = crash.tells;
+    later = crash.faults;
+  })

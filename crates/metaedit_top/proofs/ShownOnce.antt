@@ -12,7 +12,7 @@ use Rattle.part_tree.specs.Names.{field_place, same_name}
 use Rattle.part_tree.proofs.Places.{place_is_same, same_is_equal, same_refl}
 use Rattle.field_model.specs.Fields.{FieldMap}
 use Rattle.me_report.specs.Lines.{count_line}
-use Rattle.me_report.specs.Report.{field_lines, index_line, kind_line}
+use Rattle.me_report.specs.Report.{field_lines, index_line, kind_line, track_lines}
 use Rattle.edit_planner.specs.Kinds.{model_in}
 use Rattle.metaedit_top.specs.Asked.{fields_of, payload}
 use Rattle.metaedit_top.specs.Told.{Lists, Shows}
@@ -88,4 +88,4 @@ shown_once o a b x y =
     let same = same_names 0 x.fields y.fields x.lists.ordered y.lists.ordered (λ n. x.lists.same n ∙ sym (y.lists.same n)) in
     let lines =
     lines_of o x.fields x.lists ∙ ap (λ (ns : List FieldName). flat_map (field_lines (fields_of o)) ns) same ∙ sym (lines_of o y.fields y.lists) in
-    x.is ∙ ap (λ (text : List ℕ). kind_line ((model_in o).kind o) ++ (count_line (codes "essence ") (payload o) ++ (index_line ((model_in o).entries o) ++ text))) lines ∙ sym y.is
+    x.is ∙ ap (λ (text : List ℕ). (kind_line ((model_in o).kind o) ++ (count_line (codes "essence ") (payload o) ++ index_line ((model_in o).entries o))) ++ (track_lines o ((model_in o).essence o) 1 ((model_in o).tracks o) ++ text)) lines ∙ sym y.is

@@ -6,3 +6,11 @@ pub mod Stage
 pub mod Text
 pub mod Changed
 pub mod Started
+pub mod BatchWords
+pub mod BatchText
+pub mod Batch
+pub mod Answered
+pub mod Begun
+pub mod Formats
+pub mod Making
+pub mod Tables

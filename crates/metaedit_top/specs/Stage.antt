@@ -1,5 +1,5 @@
 -- A command on a file that stands alone: what it leaves and tells, and why it stops.
-use Rattle.std.specs.Prelude.{◌≡◌, ℕ, ◌+◌, ◌≤◌, Bool, true, IsTrue, IfOk, IfErr, OnOk, List, Some, None, Result, Ok, Err}
+use Rattle.std.specs.Prelude.{◌≡◌, ℕ, ◌+◌, ◌≤◌, nat_lt, if◌then◌else◌, Bool, true, IsTrue, IfOk, IfErr, OnOk, List, Some, None, Result, Ok, Err}
 use Rattle.me_bytes.specs.Bytes.{IsBytes}
 use Rattle.me_disk.specs.Causes.{Rose}
 use Rattle.me_disk.specs.Disk.{Disk, Leaves, Only, bytes_of, read_as}
@@ -18,7 +18,7 @@ use Rattle.metaedit_top.specs.declared.outcome.Finished.{Finished}
 use Rattle.metaedit_top.specs.declared.outcome.Stop.{Stop}
 use Rattle.metaedit_top.specs.declared.outcome.Stop.TheVariants as stop
 use Rattle.metaedit_top.specs.declared.words.Request.{Request}
-use Rattle.metaedit_top.specs.Asked.{edits_file, reads_file, run_bytes, why_in}
+use Rattle.metaedit_top.specs.Asked.{edits_file, reads_file, run_bytes, why_by}
 use Rattle.metaedit_top.specs.Run.{HasRun, HasTold, IsRefused, IsTooLarge, MayLeave}
 use Rattle.metaedit_top.specs.Told.{Fixes}
 
@@ -40,11 +40,13 @@ pub record HasActed (q : Request) (o : List ℕ) (stood : Bool) (old new : Disk)
 abbrev pub ActStops : Request → Disk → Disk → Stop → Type 0
 ActStops q old new stop.Depot = Rose old.faults new.faults
 ActStops q old new stop.NoFile = ⊥
+ActStops q old new stop.FileThere = ⊥
 ActStops q old new (stop.Damaged at) = ⊥
-ActStops q old new (stop.NotSupported w) = (reads_file q.command ≡ true) × OnHeld old (λ o. why_in o ≡ Some w)
-ActStops q old new (stop.RuleBroken b) = (edits_file q.command ≡ true) × OnHeld old (λ o. IsRefused q o b)
+ActStops q old new (stop.NotSupported w) = (reads_file q.command ≡ true) × OnHeld old (λ o. why_by q.command o ≡ Some w)
+ActStops q old new (stop.RuleBroken b) = (edits_file q.command ≡ true) × OnHeld old (λ o. IsRefused q.rules q.edit o b)
 ActStops q old new (stop.TooLarge size limit) =
-    (edits_file q.command ≡ true) × OnHeld old (λ o. IsBytes o → IsTooLarge q o (record { size = size; limit = limit }))
+    (edits_file q.command ≡ true)
+    × OnHeld old (λ o. IsBytes o → IsTooLarge q.rules q.edit o (record { size = size; limit = limit }))
 ActStops q old new stop.Memory = Unit {0}
 
 -- what is left at a stop: at a fault of the device at most what the run writes was written, and else nothing was
@@ -85,3 +87,10 @@ abbrev pub stop_of_recovery : RecoverFault → Stop
 stop_of_recovery recover.NoFile = stop.NoFile
 stop_of_recovery (recover.Damaged at) = stop.Damaged at
 stop_of_recovery recover.Depot = stop.Depot
+
+-- ---- want of memory
+
+-- the stop that is told, by the device's counts of faults before and after a run: a want of memory only where none rose
+abbrev pub counted : ℕ → ℕ → Stop → Stop
+counted before after stop.Memory = if nat_lt before after then stop.Depot else stop.Memory
+counted before after s = s

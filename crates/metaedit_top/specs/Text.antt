@@ -8,9 +8,12 @@ use Rattle.field_model.specs.Texts.{name_text}
 use Rattle.escapes.specs.Escapes.{escaped}
 use Rattle.me_report.specs.Lines.{or_nothing}
 use Rattle.metaedit_top.specs.declared.outcome.Outcome.{Outcome}
-use Rattle.metaedit_top.specs.declared.outcome.Outcome.TheVariants.{Done, Usage, DepotFault, NoFile, JournalDamaged, NotSupported, RuleBroken, TooLarge, OutFault, Memory}
+use Rattle.core_table.specs.declared.fault.TableFault.{TableFault}
+use Rattle.core_table.specs.declared.fault.TableFault.TheVariants as table
+use Rattle.metaedit_top.specs.declared.outcome.Outcome.TheVariants.{Done, Usage, TableReadFault, DepotFault, NoFile, FileThere, JournalDamaged, NotSupported, RuleBroken, TooLarge, OutFault, Memory}
+use Rattle.metaedit_top.specs.declared.outcome.Outcome.TheVariants as outcome
 use Rattle.metaedit_top.specs.declared.outcome.UsageFault.{UsageFault}
-use Rattle.metaedit_top.specs.declared.outcome.UsageFault.TheVariants.{NoCommand, UnknownCommand, Words, Item, Field, Twice}
+use Rattle.metaedit_top.specs.declared.outcome.UsageFault.TheVariants.{NoCommand, UnknownCommand, Words, Value, Item, Field, Twice, SameFile}
 use Rattle.metaedit_top.specs.declared.text.Told.{Told}
 use Rattle.metaedit_top.specs.declared.text.Told.TheVariants.{Nothing, Number, Numbers, Letters, LettersAnd}
 
@@ -21,11 +24,14 @@ status (Usage fault) = 2
 status NoFile = 3
 status (JournalDamaged at) = 4
 status (NotSupported why) = 5
+status (outcome.TableFault fault) = 6
 status (RuleBroken broken) = 7
 status (TooLarge size limit) = 8
 status (DepotFault n) = 9
+status TableReadFault = 10
 status (OutFault edited) = 11
 status Memory = 12
+status FileThere = 13
 
 -- what is told beside a name: numbers in decimal, identifiers with escapes
 abbrev pub told_words : Told → List ℕ
@@ -40,16 +46,44 @@ abbrev pub usage_name : UsageFault → List ℕ
 usage_name NoCommand = codes "NoCommand"
 usage_name UnknownCommand = codes "UnknownCommand"
 usage_name Words = codes "Words"
+usage_name Value = codes "Value"
 usage_name (Item n) = codes "Item"
 usage_name (Field n) = codes "Field"
 usage_name (Twice n) = codes "Twice"
+usage_name (SameFile n) = codes "SameFile"
 
 -- and the number of the item
 abbrev pub usage_told : UsageFault → Told
 usage_told (Item n) = Number n
 usage_told (Field n) = Number n
 usage_told (Twice n) = Number n
+usage_told (SameFile n) = Number n
 usage_told _ = Nothing
+
+-- the name of a fault of a table
+abbrev pub table_name : TableFault → List ℕ
+table_name table.Long = codes "Long"
+table_name table.NoHeader = codes "NoHeader"
+table_name (table.UnknownColumn n) = codes "UnknownColumn"
+table_name (table.TwiceColumn n) = codes "TwiceColumn"
+table_name (table.RowLength row) = codes "RowLength"
+table_name (table.NotUtf8 row) = codes "NotUtf8"
+table_name (table.BadEscape row col) = codes "BadEscape"
+table_name table.NoRow = codes "NoRow"
+table_name (table.TwoRows first second) = codes "TwoRows"
+table_name (table.Line n) = codes "Line"
+table_name table.Memory = codes "Memory"
+
+-- and its numbers
+abbrev pub table_told : TableFault → Told
+table_told (table.UnknownColumn n) = Number n
+table_told (table.TwiceColumn n) = Number n
+table_told (table.RowLength row) = Number row
+table_told (table.NotUtf8 row) = Number row
+table_told (table.BadEscape row col) = Numbers row col
+table_told (table.TwoRows first second) = Numbers first second
+table_told (table.Line n) = Number n
+table_told _ = Nothing
 
 -- the name of a reason for which a file is refused
 abbrev pub why_name : Why → List ℕ
@@ -126,11 +160,15 @@ told_line words told = words ++ (told_words told ++ codes "\n")
 abbrev pub rule_line : Broken → List ℕ
 rule_line b = codes "refused 7 " ++ (named_rule b.rule ++ (codes " " ++ (or_nothing (name_text b.field) ++ codes "\n")))
 
--- the line of each outcome: `refused`, its status, its name, and its numbers and identifiers; none where the run is done
+-- the line of each outcome: `refused`, its status, its name, and its numbers and identifiers; none where the run is
+-- done
 abbrev pub line : Outcome → List ℕ
 line (Done s) = []
 line (Usage fault) = told_line (codes "refused 2 Usage " ++ usage_name fault) (usage_told fault)
+line TableReadFault = codes "refused 10 TableReadFault\n"
+line (outcome.TableFault fault) = told_line (codes "refused 6 TableFault " ++ table_name fault) (table_told fault)
 line NoFile = codes "refused 3 NoFile\n"
+line FileThere = codes "refused 13 FileThere\n"
 line (JournalDamaged at) = told_line (codes "refused 4 JournalDamaged") (Number at)
 line (NotSupported w) = told_line (codes "refused 5 NotSupported " ++ why_name w) (why_told w)
 line (RuleBroken broken) = rule_line broken

@@ -7,8 +7,11 @@ use Rattle.part_tree.specs.declared.field.EditItem.{EditItem}
 use Rattle.part_tree.specs.declared.field.RuleSet.{RuleSet}
 use Rattle.part_tree.specs.declared.field.RuleSet.TheVariants.{Base, Ebu, Fadgi}
 use Rattle.part_tree.specs.declared.field.RuleSet.TheVariants as set
+use Rattle.part_tree.specs.declared.names.Kind.TheVariants.{Wave}
 use Rattle.field_model.specs.Texts.{field_name}
 use Rattle.core_edit.specs.Edits.{names_one}
+use Rattle.metaedit_top.specs.declared.format.TableFormat.{TableFormat}
+use Rattle.metaedit_top.specs.declared.making.Making.{Making}
 use Rattle.metaedit_top.specs.declared.outcome.UsageFault.{UsageFault}
 use Rattle.metaedit_top.specs.declared.outcome.UsageFault.TheVariants as fault
 use Rattle.metaedit_top.specs.declared.words.Command.{Command}
@@ -19,6 +22,8 @@ use Rattle.metaedit_top.specs.declared.words.Options.{Options as ReadOptions}
 use Rattle.metaedit_top.specs.declared.words.Parts.{Parts as ReadParts}
 use Rattle.metaedit_top.specs.declared.words.RequestFault.{RequestFault}
 use Rattle.metaedit_top.specs.declared.words.RequestFault.TheVariants.{Usage, Memory}
+use Rattle.metaedit_top.specs.Formats.{Formatted, begins_with_form, with_format}
+use Rattle.metaedit_top.specs.Making.{making_of}
 
 -- a word of the command line, as bytes
 abbrev pub Text : Type 0
@@ -34,7 +39,10 @@ command_of word =
     else (if bytes_eq word (codes "show") then Some command.Show
     else (if bytes_eq word (codes "validate") then Some command.Validate
     else (if bytes_eq word (codes "md5") then Some command.Md5
-    else None))))
+    else (if bytes_eq word (codes "export") then Some command.Export
+    else (if bytes_eq word (codes "apply") then Some command.Apply
+    else (if bytes_eq word (codes "make") then Some command.Make
+    else None)))))))
 
 -- a word that begins with `-`
 abbrev pub is_dashed : Text → Bool
@@ -61,6 +69,9 @@ usual_rules command.Recover = Base
 usual_rules command.Show = Base
 usual_rules command.Validate = Fadgi
 usual_rules command.Md5 = Base
+usual_rules command.Export = Base
+usual_rules command.Apply = Base
+usual_rules command.Make = Base
 
 -- whether a command takes the option `--rules`
 abbrev pub takes_rules : Command → Bool
@@ -69,16 +80,31 @@ takes_rules command.Recover = false
 takes_rules command.Show = false
 takes_rules command.Validate = true
 takes_rules command.Md5 = false
+takes_rules command.Export = false
+takes_rules command.Apply = true
+takes_rules command.Make = false
 
--- the rules, and the words behind the options
+-- whether a command takes the option `--as`, which it then must have
+abbrev pub takes_format : Command → Bool
+takes_format command.Export = true
+takes_format command.Apply = true
+takes_format _ = false
+
+-- whether a command makes a file
+abbrev pub makes_file : Command → Bool
+makes_file command.Make = true
+makes_file _ = false
+
+-- the rules, the form of a table, and the words behind the options
 pub record Options : Type 0 where
   pub rules : RuleSet
+  pub format : Option TableFormat
   pub rest : List Text
 
 -- these rules, where they are named, before these words
 abbrev pub chosen : Option RuleSet → List Text → Option Options
 chosen None rest = None
-chosen (Some rules) rest = Some (record { rules = rules; rest = rest })
+chosen (Some rules) rest = Some (record { rules = rules; format = None; rest = rest })
 
 -- the value of an option that is a word of its own
 abbrev pub next_word : List Text → Option Options
@@ -91,34 +117,66 @@ is_joined word = bytes_eq (take 8 word) (codes "--rules=")
 
 -- `--rules R` or `--rules=R` directly behind the file, or none
 abbrev pub with_rules : RuleSet → List Text → Option Options
-with_rules usual [] = Some (record { rules = usual; rest = [] })
+with_rules usual [] = Some (record { rules = usual; format = None; rest = [] })
 with_rules usual (word ∷ rest) =
     if bytes_eq word (codes "--rules") then next_word rest
     else (if is_joined word then chosen (rules_of (drop 8 word)) rest
-    else Some (record { rules = usual; rest = word ∷ rest }))
+    else Some (record { rules = usual; format = None; rest = word ∷ rest }))
 
--- the options of a command
+-- the rules alone, where the command takes them
+abbrev pub rules_alone : Command → List Text → Option Options
+rules_alone command words =
+    if takes_rules command then with_rules (usual_rules command) words
+    else Some (record { rules = usual_rules command; format = None; rest = words })
+
+-- these options with the form of a table, which stands behind them
+abbrev pub format_behind : Option Options → Option Options
+format_behind None = None
+format_behind (Some o) = elim (with_format o.rest) [
+  | None ↦ None
+  | Some f ↦ Some (record { rules = o.rules; format = Some f.format; rest = f.rest })
+]
+
+-- the form of a table, behind which these options stand
+abbrev pub format_before : Command → Option Formatted → Option Options
+format_before command None = None
+format_before command (Some f) = elim (rules_alone command f.rest) [
+  | None ↦ None
+  | Some o ↦ Some (record { rules = o.rules; format = Some f.format; rest = o.rest })
+]
+
+-- the options of a command: each at most once, in any order
 abbrev pub options : Command → List Text → Option Options
-options command words = if takes_rules command then with_rules (usual_rules command) words else Some (record { rules = usual_rules command; rest = words })
+options command words =
+    if takes_format command
+    then (if begins_with_form words then format_before command (with_format words) else format_behind (rules_alone command words))
+    else rules_alone command words
 
--- `set` has one item or more, and every other command has none; no item begins with `-`
+-- `set` has one item or more, `make` a kind and a number, and every other command has none; none begins with `-`
 abbrev pub fits : Command → List Text → Bool
 fits command.Set items = not (length items == 0) && not (list_any is_dashed items)
 fits command.Recover items = length items == 0
 fits command.Show items = length items == 0
 fits command.Validate items = length items == 0
 fits command.Md5 items = length items == 0
+fits command.Export items = length items == 0
+fits command.Apply items = length items == 0
+fits command.Make items = (length items == 2) && not (list_any is_dashed items)
 
--- the file, the rules, and the words of the items
+-- the file, the options, and the words behind them
 pub record Parts : Type 0 where
   pub file : Text
   pub rules : RuleSet
+  pub format : Option TableFormat
   pub items : List Text
 
 -- the parts, where these are words that the command may have
 abbrev pub fitting : Command → Text → Option Options → Option Parts
 fitting command file None = None
-fitting command file (Some o) = if fits command o.rest then Some (record { file = file; rules = o.rules; items = o.rest }) else None
+fitting command file (Some o) =
+    if fits command o.rest
+    then Some (record { file = file; rules = o.rules; format = o.format; items = o.rest })
+    else None
 
 -- the parts of the words behind a command, where they have its form
 abbrev pub parts : Command → List Text → Option Parts
@@ -184,12 +242,23 @@ edit_of words = edit_in (items_from 1 words)
 -- the request of a command with these parts
 abbrev pub asked : Command → Parts → Result (List EditItem) UsageFault → Result Request UsageFault
 asked command p (Err fault) = Err fault
-asked command p (Ok edit) = Ok (record { command = command; file = p.file; rules = p.rules; edit = edit })
+asked command p (Ok edit) =
+    Ok (record { command = command; file = p.file; rules = p.rules; format = p.format; edit = edit; kind = Wave; n = 0 })
+
+-- the request to make a file of a kind and a number
+abbrev pub asked_to_make : Command → Parts → Option Making → Result Request UsageFault
+asked_to_make command p None = Err fault.Value
+asked_to_make command p (Some m) =
+    Ok (record { command = command; file = p.file; rules = p.rules; format = p.format; edit = []; kind = m.kind; n = m.n })
+
+-- the request of a command by its parts
+abbrev pub request_of : Command → Parts → Result Request UsageFault
+request_of command p = if makes_file command then asked_to_make command p (making_of p.items) else asked command p (edit_of p.items)
 
 -- the request, where the words have the form of a command
 abbrev pub request_by : Command → Option Parts → Result Request UsageFault
 request_by command None = Err fault.Words
-request_by command (Some p) = asked command p (edit_of p.items)
+request_by command (Some p) = request_of command p
 
 -- the request, where the first word is a command
 abbrev pub request_in : Option Command → List Text → Result Request UsageFault
@@ -207,11 +276,15 @@ ReadsItem n word (Ok i) = item n word ≡ Ok i
 ReadsItem n word (Err (Usage fault)) = item n word ≡ Err fault
 ReadsItem n word (Err Memory) = Unit {0}
 
+-- what is read is this
+abbrev pub ReadsAs : Result Request UsageFault → Result Request RequestFault → Type 0
+ReadsAs asked (Ok q) = asked ≡ Ok q
+ReadsAs asked (Err (Usage fault)) = asked ≡ Err fault
+ReadsAs asked (Err Memory) = Unit {0}
+
 -- what a reading of the words answers
 abbrev pub ReadsRequest : List Text → Result Request RequestFault → Type 0
-ReadsRequest words (Ok q) = request words ≡ Ok q
-ReadsRequest words (Err (Usage fault)) = request words ≡ Err fault
-ReadsRequest words (Err Memory) = Unit {0}
+ReadsRequest words result = ReadsAs (request words) result
 
 -- what a reading of the items answers
 abbrev pub ReadsEdit : List Text → Result (List EditItem) RequestFault → Type 0
@@ -221,11 +294,11 @@ ReadsEdit words (Err Memory) = Unit {0}
 
 -- the options that were read
 abbrev pub options_in : ReadOptions → Options
-options_in o = record { rules = o.rules; rest = o.rest.now }
+options_in o = record { rules = o.rules; format = o.format; rest = o.rest.now }
 
 -- the parts that were read
 abbrev pub parts_in : ReadParts → Parts
-parts_in p = record { file = p.file.now; rules = p.rules; items = p.items.now }
+parts_in p = record { file = p.file.now; rules = p.rules; format = p.format; items = p.items.now }
 
 -- the items that were collected
 abbrev pub items_in : Collected → Items

@@ -1,21 +1,19 @@
-// The edit of a file that stands alone, where each item has an effect and no rule is broken.
-ghost use Rattle.std.specs.Prelude.{◌≡◌, IsTrue, IfOk};
+// The edit of a file that stands alone: what is ready for it, and how that is carried out.
+ghost use Rattle.std.specs.Prelude.{◌≡◌, None, IsTrue, IfOk};
 ghost use Rattle.me_disk.specs.Disk.{bytes_of};
 ghost use Rattle.me_report.specs.Done.{done_line as line_of};
 ghost use Rattle.edit_journal.specs.Settled.{StandsAlone};
 ghost use Rattle.part_tree.specs.Plans.{Belongs};
-ghost use Rattle.file_swap.specs.Swap.{Runs, fresh};
 ghost use Rattle.edit_planner.specs.Facts.{IsRead};
-ghost use Rattle.edit_planner.specs.Plan.{IsReady, fields_in, kind_in, streams_in, told_in};
-ghost use Rattle.metaedit_top.specs.Changed.{Changes};
+ghost use Rattle.edit_planner.specs.Plan.{IsReady, fields_in, kind_in, streams_in, told_in, unbuilt_in};
+ghost use Rattle.metaedit_top.specs.Changed.{CarriedBy, IsFresh, OnSwap, StartsChange};
 ghost use Rattle.metaedit_top.specs.Changed as spec;
-ghost use Rattle.metaedit_top.specs.Stage.{IsSettled};
 
-use crate::outcome::{Finished, Stop};
+use crate::outcome::{Finished, Prepared, Stop};
 use core_edit::Edit;
 use edit_planner::{FileMap, plan};
 use file_swap::Swap;
-use me_disk::{Depot, DepotFault};
+use me_disk::Depot;
 use me_report::{Summary, done_line};
 use part_tree::{Bytes, NoMemory, Plan, Shows};
 use std::alloc::Global;
@@ -47,27 +45,18 @@ pub(crate) fn tell_edit(alloc: Global, summary: Summary) -> Result<Finished, NoM
     Ok(Finished { summary, text })
 }
 
-// Carries a plan out on the file that stands alone.
-fn carry_out<D: Depot>(depot: &mut D, swap: Swap) -> Result<(), DepotFault>
-    requires fresh { swap ≡ fresh swap.plan }
-    requires alone { StandsAlone (bytes_of (D.disk depot.old).slots.main) (D.disk depot.old) }
-    requires belongs { IsTrue (D.disk depot.old).tells → Belongs swap.plan (bytes_of (D.disk depot.old).slots.main) }
-    ensures { Runs swap (bytes_of (D.disk depot.old).slots.main) (D.disk depot.old) (D.disk depot.new) result }
-{
-    swap.run(depot)
-}
-
-/// Edits a file that stands alone, by its map.
-pub(crate) fn change<D: Depot>(
+/// Makes ready what is needed for an edit by the map of a file that stands alone, where each item has an effect and no
+/// rule is broken. The file is only read.
+pub(crate) fn start_change<D: Depot>(
     alloc: Global,
     depot: &mut D,
     map: &FileMap,
     edit: &Edit,
-) -> Result<Finished, Stop>
-    requires settled { IsSettled (D.disk depot.old) }
+) -> Result<Prepared, Stop>
     requires read { IsRead (D.disk depot.old) map.now }
+    requires built { unbuilt_in map.now ≡ None }
     requires ready { IsReady (kind_in map.now) (streams_in map.now) (fields_in map.now) edit.now }
-    ensures { Changes edit.now (told_in map.now).payload (D.disk depot.old) (D.disk depot.new) result }
+    ensures { StartsChange edit.now (told_in map.now).payload (D.disk depot.old) (D.disk depot.new) result }
 {
     let plan = plan(alloc, depot, map, edit)?;
     let summary = Summary {
@@ -78,6 +67,27 @@ pub(crate) fn change<D: Depot>(
     };
     let finished = tell_edit(alloc, summary)?;
     let swap = Swap::new(alloc, plan)?;
-    carry_out(depot, swap)?;
-    Ok(finished)
+    Ok(Prepared {
+        finished,
+        swap: Some(swap),
+    })
+}
+
+/// Carries out what is ready, on the file that stands alone.
+pub(crate) fn carry_out<D: Depot>(depot: &mut D, prepared: Prepared) -> Result<Finished, Stop>
+    requires fresh { OnSwap prepared.swap IsFresh }
+    requires alone { StandsAlone (bytes_of (D.disk depot.old).slots.main) (D.disk depot.old) }
+    requires belongs { IsTrue (D.disk depot.old).tells
+        → OnSwap prepared.swap (λ s. Belongs s.plan (bytes_of (D.disk depot.old).slots.main)) }
+    ensures { CarriedBy prepared.swap prepared.finished
+        (bytes_of (D.disk depot.old).slots.main) (D.disk depot.old) (D.disk depot.new) result }
+{
+    let Prepared { finished, swap } = prepared;
+    match swap {
+        None => Ok(finished),
+        Some(swap) => {
+            swap.run(depot)?;
+            Ok(finished)
+        }
+    }
 }

@@ -1,14 +1,12 @@
 // A run on the file of a depot, up to its output.
-ghost use Rattle.std.specs.Prelude.{◌≡◌, ◌≤◌, is_some, true, IsTrue, IfOk, IfErr, OnOk, string_bytes};
-ghost use Rattle.me_bytes.specs.Bytes.{IsBytes};
-ghost use Rattle.me_disk.specs.Disk.{Image, Only, Leaves, read_as};
-ghost use Rattle.me_disk.specs.Steps.{ReadsOnly};
-ghost use Rattle.edit_journal.specs.Settled.{IsDamaged};
-ghost use Rattle.recovery.specs.Recovered.{bytes_to_redo};
-ghost use Rattle.metaedit_top.specs.Run.{HasRun, HasTold, IsOneStop, LeavesAt, MayStand, OnFile, Stops, has_journal};
-ghost use Rattle.metaedit_top.specs.Stage.{Acts, IsSettled};
-ghost use Rattle.metaedit_top.specs.Told.{Fixes, no_edit, recovered_line, was_redone};
+ghost use Rattle.std.specs.Prelude.{◌≡◌, IfOk, false, string_bytes};
+ghost use Rattle.me_disk.specs.Disk.{Only, read_as};
+ghost use Rattle.metaedit_top.specs.Run.{Runs};
+ghost use Rattle.metaedit_top.specs.Stage.{Acts, IsSettled, counted};
+ghost use Rattle.metaedit_top.specs.Told.{no_edit, recovered_line, was_redone};
+ghost use Rattle.metaedit_top.specs.Words.{makes_file};
 
+use crate::export::export;
 use crate::outcome::{Finished, Stop};
 use crate::set::set;
 use crate::tell::{md5, show, validate};
@@ -64,15 +62,29 @@ fn act<D: Depot>(
     request: &Request,
     redone: bool,
 ) -> Result<Finished, Stop>
+    requires there { makes_file request.now.command ≡ false }
     requires settled { IsSettled (D.disk depot.old) }
     ensures { Acts request.now redone (D.disk depot.old) (D.disk depot.new) result }
 {
     match request.command {
-        Command::Set => set(alloc, depot, request),
+        // no file is made here
+        Command::Set | Command::Apply | Command::Make => set(alloc, depot, request, b""),
         Command::Recover => Ok(tell_recovery(alloc, redone)?),
         Command::Show => show(alloc, depot, request),
         Command::Validate => validate(alloc, depot, request),
         Command::Md5 => md5(alloc, depot, request),
+        Command::Export => export(alloc, depot, request),
+    }
+}
+
+/// The stop that is told of a run before which the device had counted so many faults, and so many after it: where there
+/// was no memory and the device failed too, the device's fault.
+pub(crate) fn counted_stop(stop: Stop, before: u64, after: u64) -> Stop
+    ensures { result ≡ counted before after stop }
+{
+    match stop {
+        Stop::Memory if before < after => Stop::Depot,
+        stop => stop,
     }
 }
 
@@ -82,21 +94,14 @@ pub(crate) fn run<D: Depot>(
     depot: &mut D,
     request: &Request,
 ) -> Result<Finished, Stop>
+    requires there { makes_file request.now.command ≡ false }
     requires one { Only (read_as (D.disk depot.old).slots) (D.disk depot.old) }
-    ensures ends { IfOk result (λ f. OnFile (D.disk depot.old) (λ o. IsBytes o
-        → HasRun request.now o (bytes_to_redo (read_as (D.disk depot.old).slots)) (D.disk depot.old) (D.disk depot.new)
-        × HasTold request.now o (has_journal (D.disk depot.old)) f)) }
-    ensures fixes { IfOk result (λ f. Fixes request.now.command f.summary) }
-    ensures stops { IfErr result (Stops request.now (D.disk depot.old) (D.disk depot.new)) }
-    ensures leaves { IfErr result (LeavesAt request.now (D.disk depot.old) (D.disk depot.new)) }
-    ensures crash { (i : Image) → (D.disk depot.new).since (D.disk depot.old).clock i → MayStand request.now (D.disk depot.old) i }
-    ensures damaged { IsTrue (D.disk depot.old).tells → IsDamaged (read_as (D.disk depot.old).slots)
-        → ReadsOnly (D.disk depot.old) (D.disk depot.new) }
-    ensures again_done { OnOk result (Only (read_as (D.disk depot.new).slots) (D.disk depot.new)) }
-    ensures again { IfErr result (λ stop. IsOneStop stop (D.disk depot.new)) }
-    ensures tells { (D.disk depot.new).tells ≡ (D.disk depot.old).tells }
-    ensures later { (D.disk depot.old).faults ≤ (D.disk depot.new).faults }
+    ensures { Runs request.now (D.disk depot.old) (D.disk depot.new) result }
 {
+    let before = depot.faults();
     let recovered = recover(depot)?;
-    act(alloc, depot, request, is_redone(recovered))
+    match act(alloc, depot, request, is_redone(recovered)) {
+        Ok(finished) => Ok(finished),
+        Err(stop) => Err(counted_stop(stop, before, depot.faults())),
+    }
 }

@@ -1,40 +1,38 @@
 // The edit that is asked for, of a file that stands alone.
-ghost use Rattle.std.specs.Prelude.{◌≡◌, Bool};
+ghost use Rattle.std.specs.Prelude.{◌≡◌, Bool, ℕ, List, true, IfOk};
+ghost use Rattle.me_disk.specs.Holds.{Holds};
+ghost use Rattle.metaedit_top.specs.Asked.{edits_file};
+ghost use Rattle.metaedit_top.specs.Changed.{Prepares, in_front as in_front_of};
 ghost use Rattle.metaedit_top.specs.Stage.{Acts, IsSettled};
+ghost use Rattle.metaedit_top.specs.Told.{front_of};
 
-use crate::change::{change, tell_edit};
-use crate::outcome::{Finished, Stop};
-use crate::words::{Command, Request};
-use core_edit::effective;
-use edit_planner::read;
+use crate::change::{carry_out, start_change, tell_edit};
+use crate::outcome::{Finished, Prepared, Stop};
+use crate::words::Request;
+use core_edit::{Edit, effective};
+use edit_planner::read_to_edit;
 use fadgi_rules::first_broken;
 use me_disk::Depot;
 use me_report::Summary;
-use part_tree::Shows;
+use part_tree::{Bytes, NoMemory, RuleSet, Shows};
 use std::alloc::Global;
 
-/// Edits a file that stands alone, where it is supported and the edit breaks none of the rules.
-pub(crate) fn set<D: Depot>(
+/// Makes ready what is needed for the edit of a file that stands alone, where the file is supported and the edit breaks
+/// none of the rules. The file is only read, and from here on an edit takes no memory.
+pub(crate) fn prepare<D: Depot>(
     alloc: Global,
     depot: &mut D,
-    request: &Request,
-) -> Result<Finished, Stop>
-    requires command { request.now.command ≡ Command.Set }
-    requires settled { IsSettled (D.disk depot.old) }
-    ensures { (stood : Bool) → Acts request.now stood (D.disk depot.old) (D.disk depot.new) result }
+    rules: RuleSet,
+    edit: &Edit,
+) -> Result<Prepared, Stop>
+    ensures { Prepares rules edit.now (D.disk depot.old) (D.disk depot.new) result }
 {
-    let map = read(alloc, depot)?;
-    match first_broken(
-        map.kind(),
-        map.streams(),
-        map.fields(),
-        &request.edit,
-        request.rules,
-    ) {
+    let map = read_to_edit(alloc, depot)?;
+    match first_broken(map.kind(), map.streams(), map.fields(), edit, rules) {
         Some(broken) => return Err(Stop::RuleBroken(broken)),
         None => {}
     }
-    let edit = effective(alloc, map.fields(), &request.edit)?;
+    let edit = effective(alloc, map.fields(), edit)?;
     if edit.items().is_empty() {
         let unchanged = Summary {
             changed: false,
@@ -42,7 +40,43 @@ pub(crate) fn set<D: Depot>(
             payload: map.payload(),
             findings: 0,
         };
-        return Ok(tell_edit(alloc, unchanged)?);
+        let finished = tell_edit(alloc, unchanged)?;
+        return Ok(Prepared {
+            finished,
+            swap: None,
+        });
     }
-    change(alloc, depot, &map, &edit)
+    start_change(alloc, depot, &map, &edit)
+}
+
+// What is ready, told behind a text.
+fn in_front(alloc: Global, front: &[u8], prepared: Prepared) -> Result<Prepared, NoMemory>
+    ensures { IfOk result (λ p. p ≡ in_front_of front.now prepared) }
+{
+    let Prepared { finished, swap } = prepared;
+    let mut text = Vec::from_slice(alloc, front)?;
+    text.extend_from_slice(finished.text.as_slice())?;
+    let finished = Finished {
+        summary: finished.summary,
+        text: Bytes::of(text),
+    };
+    Ok(Prepared { finished, swap })
+}
+
+/// Edits a file that stands alone, where it is supported and the edit breaks none of the rules. Its line is told behind
+/// a text.
+pub(crate) fn set<D: Depot>(
+    alloc: Global,
+    depot: &mut D,
+    request: &Request,
+    front: &[u8],
+) -> Result<Finished, Stop>
+    requires command { edits_file request.now.command ≡ true }
+    requires front { (o : List ℕ) → Holds (D.disk depot.old) o → front.now ≡ front_of request.now o }
+    requires settled { IsSettled (D.disk depot.old) }
+    ensures { (stood : Bool) → Acts request.now stood (D.disk depot.old) (D.disk depot.new) result }
+{
+    let prepared = prepare(alloc, depot, request.rules, &request.edit)?;
+    let told = in_front(alloc, front, prepared)?;
+    carry_out(depot, told)
 }

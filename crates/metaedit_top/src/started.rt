@@ -71,8 +71,8 @@ fn tell<K: Sink>(alloc: Global, outcome: &Outcome, err: &mut K)
     }
 }
 
-/// Ends the program: writes the line of what the run answered to the standard error, and gives the status. Nothing is written
-/// where there is no memory for the line, and perhaps some of it where the standard error failed.
+/// Ends the program: writes the line of what the run answered to the standard error, and gives the status. Nothing is
+/// written where there is no memory for the line, and perhaps some of it where the standard error failed.
 pub fn finish<K: Sink>(alloc: Global, outcome: &Outcome, err: &mut K) -> u8
     ensures status { result ≡ status outcome.now }
     ensures told { (n : ℕ) × Appends (K.contents err.old) (K.contents err.new) (take n (line outcome.now)) }

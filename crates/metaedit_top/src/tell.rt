@@ -1,15 +1,14 @@
 // What is told of a file that stands alone, and that is only read.
-ghost use Rattle.std.specs.Prelude.{◌≡◌, ◌+◌, ◌<◌, ◌^◌, Bool, List, [], ℕ, length, Some, None, IfOk, IfSome};
-ghost use Rattle.me_disk.specs.Holds.{Holds, Inside};
+ghost use Rattle.std.specs.Prelude.{◌≡◌, ◌+◌, ◌<◌, ◌^◌, Bool, length, Some, None, IfOk, IfSome};
+ghost use Rattle.me_disk.specs.Holds.{Inside};
 ghost use Rattle.me_disk.specs.Steps.{HasCause, ReadsOnly};
 ghost use Rattle.me_report.specs.Checksums.{checksum_text, finding_count};
 ghost use Rattle.me_report.specs.Findings.{findings_text};
-ghost use Rattle.field_model.specs.Broken.{findings};
 ghost use Rattle.field_model.specs.Lawful.{IsLawful};
-ghost use Rattle.edit_planner.specs.Plan.{fields_in, kind_in, streams_in, told_in};
+ghost use Rattle.edit_planner.specs.Plan.{fields_in, told_in};
 ghost use Rattle.metaedit_top.specs.Asked.{digest_of};
-ghost use Rattle.metaedit_top.specs.Stage.{Acts, IsSettled};
-ghost use Rattle.metaedit_top.specs.Told.{look_summary as look_summary_of};
+ghost use Rattle.metaedit_top.specs.Stage.{Acts, IsSettled, OnHeld};
+ghost use Rattle.metaedit_top.specs.Told.{findings_of, look_summary as look_summary_of};
 
 use crate::outcome::{Finished, Stop};
 use crate::words::{Command, Request};
@@ -20,8 +19,8 @@ use me_report::{Summary, md5_findings, md5_text, show_text, sound_md5, validate_
 use part_tree::{NoMemory, RuleSet, Shows, Span};
 use std::alloc::Global;
 
-// The summary of a run that only reads a file.
-fn look_summary(payload: u64, findings: u32) -> Summary
+/// The summary of a run that only reads a file.
+pub(crate) fn look_summary(payload: u64, findings: u32) -> Summary
     ensures { result ≡ look_summary_of payload findings }
 {
     Summary {
@@ -36,9 +35,8 @@ fn look_summary(payload: u64, findings: u32) -> Summary
 fn tell_findings(alloc: Global, map: &FileMap, rules: RuleSet) -> Result<Finished, NoMemory>
     requires { IsLawful (fields_in map.now) }
     ensures summary { IfOk result (λ f. f.summary
-        ≡ look_summary_of (told_in map.now).payload (length (findings (kind_in map.now) (streams_in map.now) (fields_in map.now) [] rules))) }
-    ensures text { IfOk result (λ f. f.text
-        ≡ findings_text (findings (kind_in map.now) (streams_in map.now) (fields_in map.now) [] rules)) }
+        ≡ look_summary_of (told_in map.now).payload (length (findings_of map.now rules))) }
+    ensures text { IfOk result (λ f. f.text ≡ findings_text (findings_of map.now rules)) }
 {
     let broken = all_broken(alloc, map.kind(), map.fields(), rules)?;
     let text = validate_text(alloc, broken.as_slice())?;
@@ -65,7 +63,7 @@ pub(crate) fn validate<D: Depot>(
 fn digest<D: Depot>(depot: &mut D, range: Option<Span>) -> Result<Option<[u8; 16]>, DepotFault>
     requires inside { IfSome range (λ s. Inside (s.at + s.len) (D.disk depot.old)) }
     requires small { IfSome range (λ s. s.at + s.len < 2 ^ 63) }
-    ensures digest { (o : List ℕ) → Holds (D.disk depot.old) o → IfOk result (λ digest. digest ≡ digest_of o range) }
+    ensures digest { OnHeld (D.disk depot.old) (λ o. IfOk result (λ digest. digest ≡ digest_of o range)) }
     ensures reads { ReadsOnly (D.disk depot.old) (D.disk depot.new) }
     ensures cause { HasCause (D.disk depot.old) (D.disk depot.new) result }
 {

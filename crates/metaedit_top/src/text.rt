@@ -5,6 +5,7 @@ ghost use Rattle.metaedit_top.specs.Text.{line, rule_line, status, told_line, to
 
 use crate::outcome::{Outcome, UsageFault};
 use core_edit::name_text;
+use core_table::TableFault;
 use escapes::escape;
 use me_bytes::NoMemory;
 use part_tree::{Broken, Bytes, FourCc, Why, rule_name};
@@ -30,11 +31,14 @@ pub fn code(outcome: &Outcome) -> u8
         Outcome::NoFile => 3,
         Outcome::JournalDamaged { at: _ } => 4,
         Outcome::NotSupported(_) => 5,
+        Outcome::TableFault(_) => 6,
         Outcome::RuleBroken(_) => 7,
         Outcome::TooLarge { size: _, limit: _ } => 8,
         Outcome::DepotFault { faults: _ } => 9,
+        Outcome::TableReadFault => 10,
         Outcome::OutFault { edited: _ } => 11,
         Outcome::Memory => 12,
+        Outcome::FileThere => 13,
     }
 }
 
@@ -45,9 +49,11 @@ fn usage_name(fault: &UsageFault) -> &'static str
         UsageFault::NoCommand => "NoCommand",
         UsageFault::UnknownCommand => "UnknownCommand",
         UsageFault::Words => "Words",
+        UsageFault::Value => "Value",
         UsageFault::Item { n: _ } => "Item",
         UsageFault::Field { n: _ } => "Field",
         UsageFault::Twice { n: _ } => "Twice",
+        UsageFault::SameFile { n: _ } => "SameFile",
     }
 }
 
@@ -58,6 +64,7 @@ fn usage_told(fault: &UsageFault) -> Told
         UsageFault::Item { n } => Told::Number(*n),
         UsageFault::Field { n } => Told::Number(*n),
         UsageFault::Twice { n } => Told::Number(*n),
+        UsageFault::SameFile { n } => Told::Number(*n),
         _ => Told::Nothing,
     }
 }
@@ -128,6 +135,44 @@ fn why_told(why: &Why) -> Told
         Why::TableTwice { track } => Told::Number(u64::from(*track)),
         Why::TableShort { at } => Told::Number(*at),
         Why::ChunkAstray { track, chunk } => Told::Numbers(u64::from(*track), u64::from(*chunk)),
+        _ => Told::Nothing,
+    }
+}
+
+fn table_name(fault: &TableFault) -> &'static str
+    ensures { result.now ≡ spec.table_name fault.now }
+{
+    match fault {
+        TableFault::Long => "Long",
+        TableFault::NoHeader => "NoHeader",
+        TableFault::UnknownColumn { n: _ } => "UnknownColumn",
+        TableFault::TwiceColumn { n: _ } => "TwiceColumn",
+        TableFault::RowLength { row: _ } => "RowLength",
+        TableFault::NotUtf8 { row: _ } => "NotUtf8",
+        TableFault::BadEscape { row: _, col: _ } => "BadEscape",
+        TableFault::NoRow => "NoRow",
+        TableFault::TwoRows {
+            first: _,
+            second: _,
+        } => "TwoRows",
+        TableFault::Line { n: _ } => "Line",
+        TableFault::Memory => "Memory",
+    }
+}
+
+fn table_told(fault: &TableFault) -> Told
+    ensures { result ≡ spec.table_told fault.now }
+{
+    match fault {
+        TableFault::UnknownColumn { n } => Told::Number(u64::from(*n)),
+        TableFault::TwiceColumn { n } => Told::Number(u64::from(*n)),
+        TableFault::RowLength { row } => Told::Number(u64::from(*row)),
+        TableFault::NotUtf8 { row } => Told::Number(u64::from(*row)),
+        TableFault::BadEscape { row, col } => Told::Numbers(u64::from(*row), u64::from(*col)),
+        TableFault::TwoRows { first, second } => {
+            Told::Numbers(u64::from(*first), u64::from(*second))
+        }
+        TableFault::Line { n } => Told::Number(u64::from(*n)),
         _ => Told::Nothing,
     }
 }
@@ -204,7 +249,14 @@ pub fn line_of(alloc: Global, outcome: &Outcome) -> Result<Bytes, NoMemory>
             let words = format!(in alloc; "refused 2 Usage {name}")?;
             told_bytes(alloc, words, usage_told(fault))
         }
+        Outcome::TableReadFault => Bytes::new(alloc, b"refused 10 TableReadFault\n"),
+        Outcome::TableFault(fault) => {
+            let name = table_name(fault);
+            let words = format!(in alloc; "refused 6 TableFault {name}")?;
+            told_bytes(alloc, words, table_told(fault))
+        }
         Outcome::NoFile => Bytes::new(alloc, b"refused 3 NoFile\n"),
+        Outcome::FileThere => Bytes::new(alloc, b"refused 13 FileThere\n"),
         Outcome::JournalDamaged { at } => {
             let words = format!(in alloc; "refused 4 JournalDamaged")?;
             told_bytes(alloc, words, Told::Number(*at))

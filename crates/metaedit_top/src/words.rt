@@ -2,13 +2,17 @@
 ghost use Rattle.std.specs.Prelude.{◌≡◌, Some, None, IfOk, MatchOption, IfSome, length, position, drop, ◌<◌, ◌==◌, true, false};
 ghost use Rattle.std.specs.List.{list_any, AllByRecursion};
 ghost use Rattle.core_edit.specs.Edits.{IsNamed, AreNamed, is_empty_set};
+ghost use Rattle.metaedit_top.specs.Formats as form;
+ghost use Rattle.metaedit_top.specs.Making as made;
 ghost use Rattle.metaedit_top.specs.Words as spec;
-ghost use Rattle.metaedit_top.specs.Words.{ReadsEdit, ReadsItem, ReadsRequest, items_in, options_in, parts_in};
+ghost use Rattle.metaedit_top.specs.Words.{ReadsAs, ReadsEdit, ReadsItem, ReadsRequest, items_in, options_in, parts_in};
 
+use crate::format::{Formatted, TableFormat, begins_with_form, with_format};
+use crate::making::{Making, making_of};
 use crate::outcome::UsageFault;
 use crate::word::Word;
 use core_edit::{Change, Edit, EditFault, EditItem, field_name};
-use part_tree::{Bytes, NoMemory, RuleSet};
+use part_tree::{Bytes, Kind, NoMemory, RuleSet};
 use std::alloc::Global;
 
 /// What the program can be asked to do with a file.
@@ -24,15 +28,25 @@ pub enum Command {
     Validate,
     /// Tells the checksums of the sound: those that the file stores, and the computed one.
     Md5,
+    /// Prints a Core table of the fields.
+    Export,
+    /// Edits fields by a Core table.
+    Apply,
+    /// Makes a stated file and edits it.
+    Make,
 }
 
-/// What the words ask for. The edit has no items where the command is none that edits.
+/// What the words ask for. The edit has no items where the words have none; the kind is WAVE and the number 0 where no file is
+/// made.
 #[derive(Debug, Drop)]
 pub struct Request {
     pub command: Command,
     pub file: Bytes,
     pub rules: RuleSet,
+    pub format: Option<TableFormat>,
     pub edit: Edit,
+    pub kind: Kind,
+    pub n: u64,
 }
 
 /// Why no request was read.
@@ -42,18 +56,20 @@ pub enum RequestFault {
     Memory,
 }
 
-// The rules that are tested, and the words behind the options.
+// The rules that are tested, the form of a table, and the words behind the options.
 #[derive(Drop)]
 struct Options<'a> {
     rules: RuleSet,
+    format: Option<TableFormat>,
     rest: &'a [Word],
 }
 
-// The words behind a command: the file, the rules that are tested, and the items.
+// The words behind a command: the file, the options, and the items.
 #[derive(Drop)]
 struct Parts<'a> {
     file: &'a [u8],
     rules: RuleSet,
+    format: Option<TableFormat>,
     items: &'a [Word],
 }
 
@@ -71,6 +87,12 @@ fn command_of(word: &[u8]) -> Option<Command>
         Some(Command::Validate)
     } else if word == b"md5".as_slice() {
         Some(Command::Md5)
+    } else if word == b"export".as_slice() {
+        Some(Command::Export)
+    } else if word == b"apply".as_slice() {
+        Some(Command::Apply)
+    } else if word == b"make".as_slice() {
+        Some(Command::Make)
     } else {
         None
     }
@@ -98,8 +120,8 @@ fn usual_rules(command: Command) -> RuleSet
     ensures { result ≡ spec.usual_rules command }
 {
     match command {
-        Command::Set | Command::Recover | Command::Show | Command::Md5 => RuleSet::Base,
         Command::Validate => RuleSet::Fadgi,
+        _ => RuleSet::Base,
     }
 }
 
@@ -107,11 +129,25 @@ fn usual_rules(command: Command) -> RuleSet
 fn takes_rules(command: Command) -> bool
     ensures { result ≡ spec.takes_rules command }
 {
-    matches!(command, Command::Set | Command::Validate)
+    matches!(command, Command::Set | Command::Validate | Command::Apply)
+}
+
+// Whether a command takes the option `--as`, which it then must have.
+fn takes_format(command: Command) -> bool
+    ensures { result ≡ spec.takes_format command }
+{
+    matches!(command, Command::Export | Command::Apply)
+}
+
+/// Whether a command makes a file.
+pub(crate) fn makes_file(command: Command) -> bool
+    ensures { result ≡ spec.makes_file command }
+{
+    matches!(command, Command::Make)
 }
 
 // Whether a word begins with `-`.
-fn is_dashed(word: &[u8]) -> bool
+pub(crate) fn is_dashed(word: &[u8]) -> bool
     ensures { result ≡ spec.is_dashed word.now }
 {
     match word {
@@ -121,7 +157,7 @@ fn is_dashed(word: &[u8]) -> bool
 }
 
 // Whether a word names a file.
-fn is_file(word: &[u8]) -> bool
+pub(crate) fn is_file(word: &[u8]) -> bool
     ensures { result ≡ spec.is_file word.now }
 {
     !word.is_empty() && !is_dashed(word)
@@ -145,13 +181,15 @@ fn fits(command: Command, items: &[Word]) -> bool
 {
     match command {
         Command::Set => !items.is_empty() && !some_dashed(items),
+        Command::Make => items.len() == 2 && !some_dashed(items),
         _ => items.is_empty(),
     }
 }
 
 // The value of `--rules=R`.
 fn joined_value(word: &[u8]) -> Option<&[u8]>
-    ensures { MatchOption result (spec.is_joined word.now ≡ false) (λ v. (spec.is_joined word.now ≡ true) × (v.now ≡ drop 8 word.now)) }
+    ensures { MatchOption result (spec.is_joined word.now ≡ false)
+        (λ v. (spec.is_joined word.now ≡ true) × (v.now ≡ drop 8 word.now)) }
 {
     if word.len() < 8 {
         return None;
@@ -166,19 +204,26 @@ fn joined_value(word: &[u8]) -> Option<&[u8]>
 
 // These rules, where they are named, before the words that are left.
 fn chosen(rules: Option<RuleSet>, rest: &[Word]) -> Option<Options<'_>>
-    ensures { MatchOption result (spec.chosen rules rest.now ≡ None) (λ o. spec.chosen rules rest.now ≡ Some (options_in o)) }
+    ensures { MatchOption result (spec.chosen rules rest.now ≡ None)
+        (λ o. spec.chosen rules rest.now ≡ Some (options_in o)) }
 {
     let rules = rules?;
-    Some(Options { rules, rest })
+    Some(Options {
+        rules,
+        format: None,
+        rest,
+    })
 }
 
 // `--rules R` or `--rules=R` directly behind the file, or none.
 fn with_rules(usual: RuleSet, words: &[Word]) -> Option<Options<'_>>
-    ensures { MatchOption result (spec.with_rules usual words.now ≡ None) (λ o. spec.with_rules usual words.now ≡ Some (options_in o)) }
+    ensures { MatchOption result (spec.with_rules usual words.now ≡ None)
+        (λ o. spec.with_rules usual words.now ≡ Some (options_in o)) }
 {
     match words {
         [] => Some(Options {
             rules: usual,
+            format: None,
             rest: words,
         }),
         [word, rest @ ..] => {
@@ -192,6 +237,7 @@ fn with_rules(usual: RuleSet, words: &[Word]) -> Option<Options<'_>>
                 Some(value) => chosen(rules_of(value), rest),
                 None => Some(Options {
                     rules: usual,
+                    format: None,
                     rest: words,
                 }),
             }
@@ -199,9 +245,10 @@ fn with_rules(usual: RuleSet, words: &[Word]) -> Option<Options<'_>>
     }
 }
 
-// The options of a command.
-fn read_options(command: Command, words: &[Word]) -> Option<Options<'_>>
-    ensures { MatchOption result (spec.options command words.now ≡ None) (λ o. spec.options command words.now ≡ Some (options_in o)) }
+// The rules alone, where the command takes them.
+fn rules_alone(command: Command, words: &[Word]) -> Option<Options<'_>>
+    ensures { MatchOption result (spec.rules_alone command words.now ≡ None)
+        (λ o. spec.rules_alone command words.now ≡ Some (options_in o)) }
 {
     let usual = usual_rules(command);
     if takes_rules(command) {
@@ -209,14 +256,58 @@ fn read_options(command: Command, words: &[Word]) -> Option<Options<'_>>
     } else {
         Some(Options {
             rules: usual,
+            format: None,
             rest: words,
         })
     }
 }
 
+// The options of a command, before which the form of a table stands.
+fn format_first(command: Command, words: &[Word]) -> Option<Options<'_>>
+    ensures { MatchOption result (spec.format_before command (form.with_format words.now) ≡ None)
+        (λ o. spec.format_before command (form.with_format words.now) ≡ Some (options_in o)) }
+{
+    let Formatted { format, rest } = with_format(words)?;
+    let options = rules_alone(command, rest)?;
+    Some(Options {
+        rules: options.rules,
+        format: Some(format),
+        rest: options.rest,
+    })
+}
+
+// The options of a command, behind which the form of a table stands.
+fn format_last(command: Command, words: &[Word]) -> Option<Options<'_>>
+    ensures { MatchOption result (spec.format_behind (spec.rules_alone command words.now) ≡ None)
+        (λ o. spec.format_behind (spec.rules_alone command words.now) ≡ Some (options_in o)) }
+{
+    let options = rules_alone(command, words)?;
+    let Formatted { format, rest } = with_format(options.rest)?;
+    Some(Options {
+        rules: options.rules,
+        format: Some(format),
+        rest,
+    })
+}
+
+// The options of a command.
+fn read_options(command: Command, words: &[Word]) -> Option<Options<'_>>
+    ensures { MatchOption result (spec.options command words.now ≡ None)
+        (λ o. spec.options command words.now ≡ Some (options_in o)) }
+{
+    if !takes_format(command) {
+        rules_alone(command, words)
+    } else if begins_with_form(words) {
+        format_first(command, words)
+    } else {
+        format_last(command, words)
+    }
+}
+
 // The parts of the words behind a command, where they have its form.
 fn read_parts(command: Command, words: &[Word]) -> Option<Parts<'_>>
-    ensures { MatchOption result (spec.parts command words.now ≡ None) (λ p. spec.parts command words.now ≡ Some (parts_in p)) }
+    ensures { MatchOption result (spec.parts command words.now ≡ None)
+        (λ p. spec.parts command words.now ≡ Some (parts_in p)) }
 {
     let [file, rest @ ..] = words else {
         return None;
@@ -231,12 +322,13 @@ fn read_parts(command: Command, words: &[Word]) -> Option<Parts<'_>>
     Some(Parts {
         file: file.as_bytes(),
         rules: options.rules,
+        format: options.format,
         items: options.rest,
     })
 }
 
 // The place of the first `=`.
-fn find_equals(word: &[u8]) -> Option<usize>
+pub(crate) fn find_equals(word: &[u8]) -> Option<usize>
     ensures place { result ≡ position (λ b. b == 61) word.now }
     ensures small { IfSome result (λ k. k < length word.now) }
 {
@@ -318,7 +410,7 @@ fn collect_items(alloc: Global, words: &[Word]) -> Result<Collected, NoMemory>
 }
 
 // The edit that the words of the items give, or the first fault of them.
-fn read_edit(alloc: Global, words: &[Word]) -> Result<Edit, RequestFault>
+pub(crate) fn read_edit(alloc: Global, words: &[Word]) -> Result<Edit, RequestFault>
     ensures { ReadsEdit words.now result }
 {
     let Ok(Collected { items, stop }) = collect_items(alloc, words) else {
@@ -335,6 +427,46 @@ fn read_edit(alloc: Global, words: &[Word]) -> Result<Edit, RequestFault>
     }
 }
 
+// A request with these items.
+fn ask(alloc: Global, command: Command, parts: &Parts<'_>) -> Result<Request, RequestFault>
+    ensures { ReadsAs (spec.asked command (parts_in parts.now) (spec.edit_of parts.now.items.now)) result }
+{
+    let edit = read_edit(alloc, parts.items)?;
+    match Bytes::new(alloc, parts.file) {
+        Err(_) => Err(RequestFault::Memory),
+        Ok(file) => Ok(Request {
+            command,
+            file,
+            rules: parts.rules,
+            format: parts.format,
+            edit,
+            kind: Kind::Wave,
+            n: 0,
+        }),
+    }
+}
+
+// A request to make a file.
+fn ask_to_make(alloc: Global, command: Command, parts: &Parts<'_>) -> Result<Request, RequestFault>
+    ensures { ReadsAs (spec.asked_to_make command (parts_in parts.now) (made.making_of parts.now.items.now)) result }
+{
+    let Some(Making { kind, n }) = making_of(parts.items) else {
+        return Err(RequestFault::Usage(UsageFault::Value));
+    };
+    match Bytes::new(alloc, parts.file) {
+        Err(_) => Err(RequestFault::Memory),
+        Ok(file) => Ok(Request {
+            command,
+            file,
+            rules: parts.rules,
+            format: parts.format,
+            edit: Edit::of(Vec::new(alloc)),
+            kind,
+            n,
+        }),
+    }
+}
+
 /// What the words ask for, or the first thing that is wrong with them. The words are those behind the program's name.
 pub fn read_request(alloc: Global, words: &[Word]) -> Result<Request, RequestFault>
     ensures { ReadsRequest words.now result }
@@ -345,20 +477,12 @@ pub fn read_request(alloc: Global, words: &[Word]) -> Result<Request, RequestFau
     let Some(command) = command_of(first.as_bytes()) else {
         return Err(RequestFault::Usage(UsageFault::UnknownCommand));
     };
-    let Some(Parts { file, rules, items }) = read_parts(command, rest) else {
+    let Some(parts) = read_parts(command, rest) else {
         return Err(RequestFault::Usage(UsageFault::Words));
     };
-    let edit = match read_edit(alloc, items) {
-        Err(fault) => return Err(fault),
-        Ok(edit) => edit,
-    };
-    match Bytes::new(alloc, file) {
-        Err(_) => Err(RequestFault::Memory),
-        Ok(file) => Ok(Request {
-            command,
-            file,
-            rules,
-            edit,
-        }),
+    if makes_file(command) {
+        ask_to_make(alloc, command, &parts)
+    } else {
+        ask(alloc, command, &parts)
     }
 }

@@ -34,9 +34,11 @@ pub struct Meta {
 pub fn find_user<D: Depot>(depot: &mut D, span: Span) -> Result<Option<AtomAt>, ReadFault>
     requires inside { Inside (span.at + span.len) (D.disk depot.old) }
     requires small { span.at + span.len < 2 ^ 63 }
-    ensures user { (b : List ℕ) → Holds (D.disk depot.old) b → IfOk result (λ found. IsKid b (first_that udta.is (kids_in b span.at (span.at + span.len))) found) }
+    ensures user { (b : List ℕ) → Holds (D.disk depot.old) b
+        → IfOk result (λ found. IsKid b (first_that udta.is (kids_in b span.at (span.at + span.len))) found) }
     ensures stands { IfOk result (λ found. StandsIn span.at (span.at + span.len) found) }
-    ensures why { (b : List ℕ) → Holds (D.disk depot.old) b → (row Inner b span.at (span.at + span.len)).stop ≡ ends → IfErr result IsNoWhy }
+    ensures why { (b : List ℕ) → Holds (D.disk depot.old) b → (row Inner b span.at (span.at + span.len)).stop ≡ ends
+        → IfErr result IsNoWhy }
     ensures reads { ReadsOnly (D.disk depot.old) (D.disk depot.new) }
     ensures cause { result ≡ Err ReadFault.Depot → Rose (D.disk depot.old).faults (D.disk depot.new).faults }
 {
@@ -63,7 +65,8 @@ fn read_table<D: Depot>(
 ) -> Result<Option<KeyTable>, ReadFault>
     requires inside { Inside (atom.now.body.at + atom.now.body.len) (D.disk depot.old) }
     requires small { atom.now.body.at + atom.now.body.len < 2 ^ 63 }
-    ensures table { (b : List ℕ) → Holds (D.disk depot.old) b → IfOk result (λ found. found ≡ table_of (atom_in b atom.now)) }
+    ensures table { (b : List ℕ) → Holds (D.disk depot.old) b
+        → IfOk result (λ found. found ≡ table_of (atom_in b atom.now)) }
     ensures read { IfOk result (λ found. IfSome found IsRead) }
     ensures why { IfErr result IsNoWhy }
     ensures reads { ReadsOnly (D.disk depot.old) (D.disk depot.new) }
@@ -93,10 +96,13 @@ pub fn find_meta<D: Depot>(
 ) -> Result<Option<Meta>, ReadFault>
     requires inside { Inside (span.at + span.len) (D.disk depot.old) }
     requires small { span.at + span.len < 2 ^ 63 }
-    ensures meta { (b : List ℕ) → Holds (D.disk depot.old) b → IfOk result (λ found. IsTable b (first_that is_meta (kids_in b span.at (span.at + span.len))) found) }
-    ensures stands { IfOk result (λ found. IfSome found (λ meta. (span.at ≤ meta.atom.at) × InOrder meta.atom.at (span.at + span.len) meta.atom)) }
+    ensures meta { (b : List ℕ) → Holds (D.disk depot.old) b
+        → IfOk result (λ found. IsTable b (first_that is_meta (kids_in b span.at (span.at + span.len))) found) }
+    ensures stands { IfOk result (λ found. IfSome found (λ meta. (span.at ≤ meta.atom.at)
+        × InOrder meta.atom.at (span.at + span.len) meta.atom)) }
     ensures read { IfOk result (λ found. IfSome found (λ meta. IsRead meta.table)) }
-    ensures why { (b : List ℕ) → Holds (D.disk depot.old) b → (row Inner b span.at (span.at + span.len)).stop ≡ ends → IfErr result IsNoWhy }
+    ensures why { (b : List ℕ) → Holds (D.disk depot.old) b → (row Inner b span.at (span.at + span.len)).stop ≡ ends
+        → IfErr result IsNoWhy }
     ensures reads { ReadsOnly (D.disk depot.old) (D.disk depot.new) }
     ensures cause { result ≡ Err ReadFault.Depot → Rose (D.disk depot.old).faults (D.disk depot.new).faults }
 {

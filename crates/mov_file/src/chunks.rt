@@ -23,7 +23,8 @@ fn read_narrow<D: Depot>(
     requires small { end < 2 ^ 63 }
     requires whole { at + 4 ≤ end }
     requires window { IsWindow (D.disk depot.old) window.old }
-    ensures number { (b : List ℕ) → Holds (D.disk depot.old) b → IfOk result (λ n. n ≡ from_be_bytes w32 (take 4 (drop at b))) }
+    ensures number { (b : List ℕ) → Holds (D.disk depot.old) b
+        → IfOk result (λ n. n ≡ from_be_bytes w32 (take 4 (drop at b))) }
     ensures window { IsWindow (D.disk depot.new) window.new }
     ensures reads { ReadsOnly (D.disk depot.old) (D.disk depot.new) }
     ensures cause { HasCause (D.disk depot.old) (D.disk depot.new) result }
@@ -44,7 +45,8 @@ fn read_wide<D: Depot>(
     requires small { end < 2 ^ 63 }
     requires whole { at + 8 ≤ end }
     requires window { IsWindow (D.disk depot.old) window.old }
-    ensures number { (b : List ℕ) → Holds (D.disk depot.old) b → IfOk result (λ n. n ≡ from_be_bytes w64 (take 8 (drop at b))) }
+    ensures number { (b : List ℕ) → Holds (D.disk depot.old) b
+        → IfOk result (λ n. n ≡ from_be_bytes w64 (take 8 (drop at b))) }
     ensures window { IsWindow (D.disk depot.new) window.new }
     ensures reads { ReadsOnly (D.disk depot.old) (D.disk depot.new) }
     ensures cause { HasCause (D.disk depot.old) (D.disk depot.new) result }
@@ -66,7 +68,8 @@ fn read_row<D: Depot>(
     requires small { end < 2 ^ 63 }
     requires whole { at + (width_of wide).bytes ≤ end }
     requires window { IsWindow (D.disk depot.old) window.old }
-    ensures place { (b : List ℕ) → Holds (D.disk depot.old) b → IfOk result (λ place. place ≡ (width_of wide).get (take (width_of wide).bytes (drop at b))) }
+    ensures place { (b : List ℕ) → Holds (D.disk depot.old) b
+        → IfOk result (λ place. place ≡ (width_of wide).get (take (width_of wide).bytes (drop at b))) }
     ensures window { IsWindow (D.disk depot.new) window.new }
     ensures reads { ReadsOnly (D.disk depot.old) (D.disk depot.new) }
     ensures cause { HasCause (D.disk depot.old) (D.disk depot.new) result }
@@ -99,7 +102,8 @@ fn astray_among<D: Depot>(
     requires small { rows.at + rows.len < 2 ^ 63 }
     requires order { Ascends 0 mdats.now }
     requires window { IsWindow (D.disk depot.old) window.old }
-    ensures astray { (b : List ℕ) → Holds (D.disk depot.old) b → (width_of wide).bytes * count ≤ rows.len → IfOk result (λ found. found ≡ first_astray mdats.now 1 (numbers (width_of wide) count (drop rows.at b))) }
+    ensures astray { (b : List ℕ) → Holds (D.disk depot.old) b → (width_of wide).bytes * count ≤ rows.len
+        → IfOk result (λ found. found ≡ first_astray mdats.now 1 (numbers (width_of wide) count (drop rows.at b))) }
     ensures window { IsWindow (D.disk depot.new) window.new }
     ensures reads { ReadsOnly (D.disk depot.old) (D.disk depot.new) }
     ensures cause { HasCause (D.disk depot.old) (D.disk depot.new) result }
@@ -132,7 +136,8 @@ pub fn astray_in<D: Depot>(
     requires small { body.at + body.len < 2 ^ 63 }
     requires order { Ascends 0 mdats.now }
     requires window { IsWindow (D.disk depot.old) window.old }
-    ensures astray { (b : List ℕ) → Holds (D.disk depot.old) b → HasRows wide (slice b body.at body.len) → IfOk result (λ found. found ≡ first_astray mdats.now 1 (places_of wide (slice b body.at body.len))) }
+    ensures astray { (b : List ℕ) → Holds (D.disk depot.old) b → HasRows wide (slice b body.at body.len)
+        → IfOk result (λ found. found ≡ first_astray mdats.now 1 (places_of wide (slice b body.at body.len))) }
     ensures none { body.len < 8 → IfOk result (λ found. IsNone found) }
     ensures window { IsWindow (D.disk depot.new) window.new }
     ensures reads { ReadsOnly (D.disk depot.old) (D.disk depot.new) }

@@ -14,7 +14,8 @@ use qt_atoms::{AtomAt, AtomFault, AtomWalker, Parent};
 /// Whether the first bytes of a file of this length are those of a movie.
 pub fn begins<D: Depot>(depot: &mut D, len: u64) -> Result<bool, DepotFault>
     requires inside { Inside len (D.disk depot.old) }
-    ensures begins { (b : List ℕ) → Holds (D.disk depot.old) b → length b ≡ len → IfOk result (λ yes. yes ≡ begins_movie b) }
+    ensures begins { (b : List ℕ) → Holds (D.disk depot.old) b → length b ≡ len
+        → IfOk result (λ yes. yes ≡ begins_movie b) }
     ensures reads { ReadsOnly (D.disk depot.old) (D.disk depot.new) }
     ensures cause { HasCause (D.disk depot.old) (D.disk depot.new) result }
 {

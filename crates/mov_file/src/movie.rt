@@ -82,7 +82,8 @@ fn astray_of<D: Depot>(
     requires order { Ascends 0 mdats.now }
     requires tables { TrackEndsBy end track.now }
     requires window { IsWindow (D.disk depot.old) window.old }
-    ensures astray { (b : List ℕ) → Holds (D.disk depot.old) b → HasPlaces b track.now → IfOk result (λ found. found ≡ first_astray mdats.now 1 (chunks_of b track.now)) }
+    ensures astray { (b : List ℕ) → Holds (D.disk depot.old) b → HasPlaces b track.now
+        → IfOk result (λ found. found ≡ first_astray mdats.now 1 (chunks_of b track.now)) }
     ensures window { IsWindow (D.disk depot.new) window.new }
     ensures reads { ReadsOnly (D.disk depot.old) (D.disk depot.new) }
     ensures cause { HasCause (D.disk depot.old) (D.disk depot.new) result }
@@ -102,7 +103,8 @@ fn chunk_why<D: Depot>(
     requires order { Ascends 0 mdats.now }
     requires tables { AllByRecursion (TrackEndsBy end) tracks.now }
     requires few { length tracks.now ≤ 65536 }
-    ensures why { (b : List ℕ) → Holds (D.disk depot.old) b → AllByRecursion (HasPlaces b) tracks.now → IfOk result (λ why. why ≡ first_chunk b mdats.now 1 tracks.now) }
+    ensures why { (b : List ℕ) → Holds (D.disk depot.old) b → AllByRecursion (HasPlaces b) tracks.now
+        → IfOk result (λ why. why ≡ first_chunk b mdats.now 1 tracks.now) }
     ensures reads { ReadsOnly (D.disk depot.old) (D.disk depot.new) }
     ensures cause { HasCause (D.disk depot.old) (D.disk depot.new) result }
 {
@@ -132,9 +134,12 @@ fn take_texts<D: Depot>(
     requires inside { Inside (moov.at + moov.len) (D.disk depot.old) }
     requires small { moov.at + moov.len < 2 ^ 63 }
     requires stands { StandsIn moov.at (moov.at + moov.len) user.now }
-    ensures texts { (b : List ℕ) → Holds (D.disk depot.old) b → OnOk result (Grows fields.old fields.new (user_held b user.now)) }
+    ensures texts { (b : List ℕ) → Holds (D.disk depot.old) b
+        → OnOk result (Grows fields.old fields.new (user_held b user.now)) }
     ensures lawful { OnOk result (StayLawful fields.old fields.new) }
-    ensures why { (b : List ℕ) → Holds (D.disk depot.old) b → IfSome user.now (λ k. (row UserLevel b k.body.at (k.body.at + k.body.len)).stop ≡ ends) → IfErr result IsNoWhy }
+    ensures why { (b : List ℕ) → Holds (D.disk depot.old) b
+        → IfSome user.now (λ k. (row UserLevel b k.body.at (k.body.at + k.body.len)).stop ≡ ends)
+        → IfErr result IsNoWhy }
     ensures reads { ReadsOnly (D.disk depot.old) (D.disk depot.new) }
     ensures cause { result ≡ Err ReadFault.Depot → Rose (D.disk depot.old).faults (D.disk depot.new).faults }
 {
@@ -169,7 +174,8 @@ fn take_meta(
 fn read_carriers<D: Depot>(alloc: Global, depot: &mut D, moov: Span) -> Result<Carried, ReadFault>
     requires inside { Inside (moov.at + moov.len) (D.disk depot.old) }
     requires small { moov.at + moov.len < 2 ^ 63 }
-    ensures carried { (b : List ℕ) → Holds (D.disk depot.old) b → IfOk result (λ c. AreCarried b moov.at (moov.at + moov.len) c) }
+    ensures carried { (b : List ℕ) → Holds (D.disk depot.old) b
+        → IfOk result (λ c. AreCarried b moov.at (moov.at + moov.len) c) }
     ensures sound { IfOk result (λ c. AreSound moov.at (moov.at + moov.len) c) }
     ensures why { (b : List ℕ) → Holds (D.disk depot.old) b → (row Inner b moov.at (moov.at + moov.len)).stop ≡ ends
         → UserEnds (first_that udta.is (kids_in b moov.at (moov.at + moov.len))) → IfErr result IsNoWhy }

@@ -126,7 +126,8 @@ fn is_of_moov(holder: Holder, is: bool) -> bool
 
 // Takes the body of `mdat`.
 fn keep_essence(mdats: &mut Vec<Span>, holder: Holder, atom: &AtomAt) -> Result<(), NoMemory>
-    ensures { OnOk result (mdats.new.items ≡ mdats.old.items ++ (if is_top (place_of holder) (bytes_eq atom.now.kind.0 (codes "mdat")) then atom.now.body ∷ [] else [])) }
+    ensures { OnOk result (mdats.new.items ≡ mdats.old.items
+        ++ (if is_top (place_of holder) (bytes_eq atom.now.kind.0 (codes "mdat")) then atom.now.body ∷ [] else [])) }
 {
     if !is_of_file(holder, atom.kind.is(b"mdat")) {
         return Ok(());
@@ -172,7 +173,8 @@ fn track_after(track: u32, holder: Holder, kind: FourCc) -> u32
 pub fn remember(reading: &mut Reading, holder: Holder, atom: &AtomAt) -> Result<(), NoMemory>
     requires few { Few reading.old }
     requires room { reading.old.count < 65536 }
-    ensures lies { InOrder atom.now.at atom.now.next atom.now → OnOk result (LiesIn holder atom.now.at atom.now.next reading.old reading.new) }
+    ensures lies { InOrder atom.now.at atom.now.next atom.now
+        → OnOk result (LiesIn holder atom.now.at atom.now.next reading.old reading.new) }
     ensures few { OnOk result (Few reading.new) }
     ensures remembers { (c : Chunk) (before : List (Step Place)) → Stands c atom.now → Knows reading.old before
         → OnOk result (Remembers before (chunk_at (place_of holder) atom.now.at c) (part (role_by (place_of holder) reading.old.has_user c) atom.now.at c ∷ [])

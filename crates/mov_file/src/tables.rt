@@ -36,7 +36,8 @@ pub enum References {
 // The number in four bytes of the file.
 fn read_number<D: Depot>(depot: &mut D, at: u64) -> Result<u32, DepotFault>
     requires inside { Inside (at + 4) (D.disk depot.old) }
-    ensures number { (b : List ℕ) → Holds (D.disk depot.old) b → IfOk result (λ n. n ≡ from_be_bytes w32 (take 4 (drop at b))) }
+    ensures number { (b : List ℕ) → Holds (D.disk depot.old) b
+        → IfOk result (λ n. n ≡ from_be_bytes w32 (take 4 (drop at b))) }
     ensures reads { ReadsOnly (D.disk depot.old) (D.disk depot.new) }
     ensures cause { HasCause (D.disk depot.old) (D.disk depot.new) result }
 {
@@ -50,7 +51,8 @@ fn lacks_rows<D: Depot>(depot: &mut D, body: Span, len: u64) -> Result<bool, Dep
     requires inside { Inside (body.at + body.len) (D.disk depot.old) }
     requires small { body.at + body.len < 2 ^ 63 }
     requires row { len ≤ 12 }
-    ensures short { (b : List ℕ) → Holds (D.disk depot.old) b → IfOk result (λ short. short ≡ rows_short len (slice b body.at body.len)) }
+    ensures short { (b : List ℕ) → Holds (D.disk depot.old) b
+        → IfOk result (λ short. short ≡ rows_short len (slice b body.at body.len)) }
     ensures reads { ReadsOnly (D.disk depot.old) (D.disk depot.new) }
     ensures cause { HasCause (D.disk depot.old) (D.disk depot.new) result }
 {
@@ -65,7 +67,8 @@ fn lacks_rows<D: Depot>(depot: &mut D, body: Span, len: u64) -> Result<bool, Dep
 fn lacks_sizes<D: Depot>(depot: &mut D, body: Span) -> Result<bool, DepotFault>
     requires inside { Inside (body.at + body.len) (D.disk depot.old) }
     requires small { body.at + body.len < 2 ^ 63 }
-    ensures short { (b : List ℕ) → Holds (D.disk depot.old) b → IfOk result (λ short. short ≡ sizes_short (slice b body.at body.len)) }
+    ensures short { (b : List ℕ) → Holds (D.disk depot.old) b
+        → IfOk result (λ short. short ≡ sizes_short (slice b body.at body.len)) }
     ensures reads { ReadsOnly (D.disk depot.old) (D.disk depot.new) }
     ensures cause { HasCause (D.disk depot.old) (D.disk depot.new) result }
 {
@@ -84,7 +87,8 @@ fn lacks_sizes<D: Depot>(depot: &mut D, body: Span) -> Result<bool, DepotFault>
 fn is_short<D: Depot>(depot: &mut D, kind: FourCc, body: Span) -> Result<bool, DepotFault>
     requires inside { Inside (body.at + body.len) (D.disk depot.old) }
     requires small { body.at + body.len < 2 ^ 63 }
-    ensures short { (b : List ℕ) → Holds (D.disk depot.old) b → IfOk result (λ short. short ≡ is_short_table (atom kind.0 (slice b body.at body.len))) }
+    ensures short { (b : List ℕ) → Holds (D.disk depot.old) b
+        → IfOk result (λ short. short ≡ is_short_table (atom kind.0 (slice b body.at body.len))) }
     ensures reads { ReadsOnly (D.disk depot.old) (D.disk depot.new) }
     ensures cause { HasCause (D.disk depot.old) (D.disk depot.new) result }
 {
@@ -108,7 +112,8 @@ fn read_references<D: Depot>(
 ) -> Result<References, DepotFault>
     requires inside { Inside (body.at + body.len) (D.disk depot.old) }
     requires small { body.at + body.len < 2 ^ 63 }
-    ensures references { (b : List ℕ) → Holds (D.disk depot.old) b → IfOk result (λ found. AreReferences (atom kind.0 (slice b body.at body.len)) found) }
+    ensures references { (b : List ℕ) → Holds (D.disk depot.old) b
+        → IfOk result (λ found. AreReferences (atom kind.0 (slice b body.at body.len)) found) }
     ensures reads { ReadsOnly (D.disk depot.old) (D.disk depot.new) }
     ensures cause { HasCause (D.disk depot.old) (D.disk depot.new) result }
 {
@@ -173,7 +178,8 @@ pub fn track_why<D: Depot>(
 ) -> Result<Option<Why>, DepotFault>
     requires inside { Inside (atom.now.body.at + atom.now.body.len) (D.disk depot.old) }
     requires small { atom.now.body.at + atom.now.body.len < 2 ^ 63 }
-    ensures why { (b : List ℕ) (before : List (Step Place)) → Holds (D.disk depot.old) b → Knows reading.now before → IfOk result (λ why. why ≡ first (track_tests (place_of holder) before atom.now.at (atom_in b atom.now))) }
+    ensures why { (b : List ℕ) (before : List (Step Place)) → Holds (D.disk depot.old) b → Knows reading.now before
+        → IfOk result (λ why. why ≡ first (track_tests (place_of holder) before atom.now.at (atom_in b atom.now))) }
     ensures reads { ReadsOnly (D.disk depot.old) (D.disk depot.new) }
     ensures cause { HasCause (D.disk depot.old) (D.disk depot.new) result }
 {

@@ -42,7 +42,8 @@ fn take_item<D: Depot>(
 ) -> Result<(), ReadFault>
     requires inside { Inside (atom.now.body.at + atom.now.body.len) (D.disk depot.old) }
     requires small { atom.now.body.at + atom.now.body.len < 2 ^ 63 }
-    ensures texts { (b : List ℕ) → Holds (D.disk depot.old) b → OnOk result (Grows fields.old fields.new (texts_held (atom_in b atom.now ∷ []))) }
+    ensures texts { (b : List ℕ) → Holds (D.disk depot.old) b
+        → OnOk result (Grows fields.old fields.new (texts_held (atom_in b atom.now ∷ []))) }
     ensures lawful { OnOk result (StayLawful fields.old fields.new) }
     ensures why { IfErr result IsNoWhy }
     ensures reads { ReadsOnly (D.disk depot.old) (D.disk depot.new) }
@@ -75,9 +76,11 @@ pub fn take_user<D: Depot>(
 ) -> Result<(), ReadFault>
     requires inside { Inside (span.at + span.len) (D.disk depot.old) }
     requires small { span.at + span.len < 2 ^ 63 }
-    ensures texts { (b : List ℕ) → Holds (D.disk depot.old) b → OnOk result (Grows fields.old fields.new (texts_held (row user b span.at (span.at + span.len)).chunks)) }
+    ensures texts { (b : List ℕ) → Holds (D.disk depot.old) b
+        → OnOk result (Grows fields.old fields.new (texts_held (row user b span.at (span.at + span.len)).chunks)) }
     ensures lawful { OnOk result (StayLawful fields.old fields.new) }
-    ensures why { (b : List ℕ) → Holds (D.disk depot.old) b → (row user b span.at (span.at + span.len)).stop ≡ ends → IfErr result IsNoWhy }
+    ensures why { (b : List ℕ) → Holds (D.disk depot.old) b → (row user b span.at (span.at + span.len)).stop ≡ ends
+        → IfErr result IsNoWhy }
     ensures reads { ReadsOnly (D.disk depot.old) (D.disk depot.new) }
     ensures cause { result ≡ Err ReadFault.Depot → Rose (D.disk depot.old).faults (D.disk depot.new).faults }
 {

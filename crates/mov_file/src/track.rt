@@ -78,7 +78,8 @@ pub fn keep_tables(
     holder: Holder,
     atom: &AtomAt,
 ) -> Result<(), NoMemory>
-    ensures { OnOk result (tracks.new.items ≡ tables_by (place_of holder) atom.now.kind.0 atom.now.body tracks.old.items) }
+    ensures { OnOk result (tracks.new.items
+        ≡ tables_by (place_of holder) atom.now.kind.0 atom.now.body tracks.old.items) }
 {
     match holder {
         Holder::Moov => keep_track(tracks, atom.kind.is(b"trak")),

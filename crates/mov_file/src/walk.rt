@@ -34,7 +34,10 @@ fn why_not<D: Depot>(
     requires inside { Inside atom.now.next (D.disk depot.old) }
     requires small { atom.now.next < 2 ^ 63 }
     requires order { InOrder atom.now.at atom.now.next atom.now }
-    ensures why { (b : List ℕ) (before : List (Step Place)) → Holds (D.disk depot.old) b → atom.now.at + length (spell (atom_in b atom.now)) ≡ atom.now.next → Knows reading.now before → IfOk result (λ why. why ≡ first (step_tests before (chunk_at (place_of holder) atom.now.at (atom_in b atom.now)))) }
+    ensures why { (b : List ℕ) (before : List (Step Place)) → Holds (D.disk depot.old) b
+        → atom.now.at + length (spell (atom_in b atom.now)) ≡ atom.now.next → Knows reading.now before
+        → IfOk result (λ why. why
+        ≡ first (step_tests before (chunk_at (place_of holder) atom.now.at (atom_in b atom.now)))) }
     ensures room { IfOk result (λ why. IsNone why → reading.now.count < 65536) }
     ensures reads { ReadsOnly (D.disk depot.old) (D.disk depot.new) }
     ensures cause { HasCause (D.disk depot.old) (D.disk depot.new) result }
@@ -82,7 +85,8 @@ fn take_atom<D: Depot>(
 
 // Why the atoms of a file are refused at their end.
 fn end_why(has_moov: bool, holder: Holder) -> Option<Why>
-    ensures { (before : List (Step Place)) → has_moov ≡ met_moov before → result ≡ first (end_tests (place_of holder) before) }
+    ensures { (before : List (Step Place)) → has_moov ≡ met_moov before
+        → result ≡ first (end_tests (place_of holder) before) }
 {
     match holder {
         Holder::File => { if has_moov { None } else { Some(Why::NoMoov) } }

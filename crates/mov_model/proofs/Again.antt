@@ -23,7 +23,7 @@ use Rattle.mov_model.proofs.Tables.{relocated_alike, relocated_other}
 use Rattle.qt_text.proofs.User.{atom_made}
 use Rattle.mov_model.specs.Atoms.{cell_of, format, is_padding, moov}
 use Rattle.container_model.specs.Atoms.{atom, atoms_in, is}
-use Rattle.mov_model.proofs.Fits.{Fits, SmallBody}
+use Rattle.mov_model.proofs.Fits.{Fits, SmallBody, SmallCarriers, small_carriers}
 use Rattle.carrier_model.specs.Lists.{sets_some}
 use Rattle.carrier_model.specs.Steps.{carried}
 use Rattle.mov_model.specs.Carried.{Changes, fresh, steps}
@@ -222,25 +222,25 @@ module _ (o : List ℕ) (bytes : IsBytes o) (sup : Readable o) where
 
   -- ---- the edit
 
-  module _ (e : Changes) (fits : Fits mov e) where
-    abbrev pub move : ℕ → ℕ
-    move = shift (edit_cuts mov e)
+  module _ (e : Changes) (few : SmallCarriers mov e) where
+    abbrev moved : ℕ → ℕ
+    moved = shift (edit_cuts mov e)
 
-    kids_fine : AllByRecursion (Kid move) kids
-    kids_fine = kids_both move kids kids_read.0 kids_bytes (whole_kids kids sup.movie.tracks_end)
+    kids_fine : AllByRecursion (Kid moved) kids
+    kids_fine = kids_both moved kids kids_read.0 kids_bytes (whole_kids kids sup.movie.tracks_end)
 
     -- what is edited or new is read again
-    brought : AllByRecursion (Kid move) (atoms_now kids) → Brings (Kid move) e (atoms_now kids)
+    brought : AllByRecursion (Kid moved) (atoms_now kids) → Brings (Kid moved) e (atoms_now kids)
     brought all =
         record {
-          users = first_both is_user (Kid move) (λ c. SmallBody (edit_carrier udta user_items e.users c)) (λ c. Kid move (edit_carrier udta user_items e.users c))
-              (λ c u k lt. kid_sized move c (edit_carrier udta user_items e.users c).body (user_sort.no_track c u) k (omega (arith, lt))) (atoms_now kids) all
-              (all_strip (λ c. SmallBody (edit_carrier udta user_items e.users c)) (λ c h. h) (first_of is_user (atoms_now kids)) (subst (AllByRecursion (λ c. SmallBody (edit_carrier udta user_items e.users c))) (sym (first_now is_user user_sort kids)) fits.user_small));
-          new_user = λ none. kid_new move (fresh udta (put_all user_items e.users [])) (fits.fresh_small (sym (any_now is_user user_sort kids) ∙ none)) (user_atom (put_all user_items e.users []));
-          keys = first_both is_meta (Kid move) (λ c. SmallBody (edit_meta e.keys c)) (λ c. Kid move (edit_meta e.keys c))
-              (λ c u k lt. kid_sized move c (edit_meta e.keys c).body (meta_sort.no_track c u) k (omega (arith, lt))) (atoms_now kids) all
-              (all_strip (λ c. SmallBody (edit_meta e.keys c)) (λ c h. h) (first_of is_meta (atoms_now kids)) (subst (AllByRecursion (λ c. SmallBody (edit_meta e.keys c))) (sym (first_now is_meta meta_sort kids)) fits.keys_small));
-          new_keys = λ none. kid_new move (new_meta e.keys) (fits.new_keys_small (sym (any_now is_meta meta_sort kids) ∙ none)) (meta_atom (sets_some e.keys) e.keys);
+          users = first_both is_user (Kid moved) (λ c. SmallBody (edit_carrier udta user_items e.users c)) (λ c. Kid moved (edit_carrier udta user_items e.users c))
+              (λ c u k lt. kid_sized moved c (edit_carrier udta user_items e.users c).body (user_sort.no_track c u) k (omega (arith, lt))) (atoms_now kids) all
+              (all_strip (λ c. SmallBody (edit_carrier udta user_items e.users c)) (λ c h. h) (first_of is_user (atoms_now kids)) (subst (AllByRecursion (λ c. SmallBody (edit_carrier udta user_items e.users c))) (sym (first_now is_user user_sort kids)) few.user_small));
+          new_user = λ none. kid_new moved (fresh udta (put_all user_items e.users [])) (few.fresh_small (sym (any_now is_user user_sort kids) ∙ none)) (user_atom (put_all user_items e.users []));
+          keys = first_both is_meta (Kid moved) (λ c. SmallBody (edit_meta e.keys c)) (λ c. Kid moved (edit_meta e.keys c))
+              (λ c u k lt. kid_sized moved c (edit_meta e.keys c).body (meta_sort.no_track c u) k (omega (arith, lt))) (atoms_now kids) all
+              (all_strip (λ c. SmallBody (edit_meta e.keys c)) (λ c h. h) (first_of is_meta (atoms_now kids)) (subst (AllByRecursion (λ c. SmallBody (edit_meta e.keys c))) (sym (first_now is_meta meta_sort kids)) few.keys_small));
+          new_keys = λ none. kid_new moved (new_meta e.keys) (few.new_keys_small (sym (any_now is_meta meta_sort kids) ∙ none)) (meta_atom (sets_some e.keys) e.keys);
         }
       where
         user_atom : (items : List Chunk) → IfSome (fresh udta items) (λ c. (c ≡ atom c.id c.body) × (length c.id ≡ 4) × (is c (codes "trak") ≡ false))
@@ -251,26 +251,39 @@ module _ (o : List ℕ) (bytes : IsBytes o) (sup : Readable o) where
         meta_atom true ks = (refl, refl, refl)
         meta_atom false ks = tt
 
-    cells_fine : AllCells (Kid move) (carried (steps e) (map cell_of kids))
-    cells_fine = all_carried (Kid move) e kids kids_fine (λ all. all_chunks (Kid move) e (atoms_now kids) all (brought all))
+    cells_fine : AllCells (Kid moved) (carried (steps e) (map cell_of kids))
+    cells_fine = all_carried (Kid moved) e kids kids_fine (λ all. all_chunks (Kid moved) e (atoms_now kids) all (brought all))
 
-    laid_fine : AllByRecursion (Kid move) (lay (fill (is_open mov e)) (pieces_of mov e))
+    laid_fine : AllByRecursion (Kid moved) (lay (fill (is_open mov e)) (pieces_of mov e))
     laid_fine =
-        lay_all (Kid move) (fill (is_open mov e)) (record { on_pads = λ c k. kid_padded move c k; on_fill = λ last slot s. fill_all (Kid move) (kid_free move) (is_open mov e) last slot s }) shut
+        lay_all (Kid moved) (fill (is_open mov e)) (record { on_pads = λ c k. kid_padded moved c k; on_fill = λ last slot s. fill_all (Kid moved) (kid_free moved) (is_open mov e) last slot s }) shut
         (carried (steps e) (map cell_of kids)) tt cells_fine
 
+    pub small_kids_read : AllByRecursion (Atom inside) (new_kids mov e)
+    small_kids_read = kids_moved moved (lay (fill (is_open mov e)) (pieces_of mov e)) laid_fine
+
+    pub small_laid_alike : AllByRecursion (λ c. Alike c (relocated moved c)) (lay (fill (is_open mov e)) (pieces_of mov e))
+    small_laid_alike = kids_alike moved (lay (fill (is_open mov e)) (pieces_of mov e)) laid_fine
+
+    -- moov is read again
+    pub small_moov_again : atoms_in (new_movie mov e).movie ≡ record { chunks = new_kids mov e; stop = ends; left = moov_left }
+    small_moov_again = chunks_spelled atom_front inside (new_kids mov e) moov_left (atoms_again inside (new_kids mov e) moov_left small_kids_read kids_read.1)
+
+  module _ (e : Changes) (fits : Fits mov e) where
+    abbrev pub move : ℕ → ℕ
+    move = shift (edit_cuts mov e)
+
     pub new_kids_read : AllByRecursion (Atom inside) (new_kids mov e)
-    new_kids_read = kids_moved move (lay (fill (is_open mov e)) (pieces_of mov e)) laid_fine
+    new_kids_read = small_kids_read e (small_carriers mov e fits)
 
     pub laid_alike : AllByRecursion (λ c. Alike c (relocated move c)) (lay (fill (is_open mov e)) (pieces_of mov e))
-    laid_alike = kids_alike move (lay (fill (is_open mov e)) (pieces_of mov e)) laid_fine
+    laid_alike = small_laid_alike e (small_carriers mov e fits)
 
     abbrev pub now : Movie
     now = new_movie mov e
 
-    -- moov is read again
     pub moov_again : atoms_in now.movie ≡ record { chunks = new_kids mov e; stop = ends; left = moov_left }
-    moov_again = chunks_spelled atom_front inside (new_kids mov e) moov_left (atoms_again inside (new_kids mov e) moov_left new_kids_read kids_read.1)
+    moov_again = small_moov_again e (small_carriers mov e fits)
 
     behind_read : Reads atom_front top now.behind now.left
     behind_read =

@@ -150,7 +150,7 @@ gaps_no_mdat (c ∷ cs) = go (is_padding c.id) refl (gaps_no_mdat cs)
     go false e again = tt
 
 module _ (m : Movie) (e : Changes) where
-  kept_bytes : old_length (pieces_of m e) ≡ length (spell_all (atoms_in m.movie).chunks)
+  pub kept_bytes : old_length (pieces_of m e) ≡ length (spell_all (atoms_in m.movie).chunks)
   kept_bytes =
       let xs = map cell_of (atoms_in m.movie).chunks in
       ap length (units_old shut (carried (steps e) xs) ∙ ap spell_all (was_carried e xs ∙ was_read (atoms_in m.movie).chunks))
@@ -165,7 +165,7 @@ module _ (m : Movie) (e : Changes) where
   pub opened_last : is_open m e ≡ true → ends_open (pieces_of m e) ≡ true
   opened_last o = (and_parts (is_nil (atoms_in m.movie).left) (ends_open (pieces_of m e)) o).1
 
-  whole_old : old_length (whole_pieces m e) ≡ old_length (pieces_of m e) + length (spell_all (slot_behind m e))
+  pub whole_old : old_length (whole_pieces m e) ≡ old_length (pieces_of m e) + length (spell_all (slot_behind m e))
   whole_old = go (is_open m e) refl
     where
       go : (t : Bool) → is_open m e ≡ t → old_length (cond t (grown (spell_all (gaps_of m.behind)) (pieces_of m e)) (pieces_of m e)) ≡ old_length (pieces_of m e) + length (spell_all (cond t (gaps_of m.behind) []))
@@ -182,7 +182,7 @@ module _ (m : Movie) (e : Changes) where
       go true = grown_brings (spell_all (gaps_of m.behind)) (pieces_of m e) b
       go false = b
 
-  whole_new : length (spell_all (lay (fill (ends_file m e)) (whole_pieces m e))) ≡ length (spell_all (lay (fill (is_open m e)) (pieces_of m e))) + length (spell_all (padding_behind m e))
+  pub whole_new : length (spell_all (lay (fill (ends_file m e)) (whole_pieces m e))) ≡ length (spell_all (lay (fill (is_open m e)) (pieces_of m e))) + length (spell_all (padding_behind m e))
   whole_new = go (is_open m e) refl
     where
       go : (t : Bool) → is_open m e ≡ t
@@ -207,7 +207,7 @@ module _ (m : Movie) (e : Changes) where
 
 -- ---- where an edit puts the places of chunks
 
-ascend_more : (from low high : ℕ) (cs : List Cut) → low ≤ high → Ascend from cs low → Ascend from cs high
+pub ascend_more : (from low high : ℕ) (cs : List Cut) → low ≤ high → Ascend from cs low → Ascend from cs high
 ascend_more from low high [] le h = omega arith
 ascend_more from low high (c ∷ cs) le h = (h.0, ascend_more (end_of c) low high cs le h.1)
 
@@ -223,7 +223,7 @@ module _ (o : List ℕ) (bytes : IsBytes o) (sup : Readable o) (e : Changes) whe
   abbrev was : Movie
   was = mov o bytes sup
 
-  abbrev slots_end : ℕ
+  abbrev pub slots_end : ℕ
   slots_end = kids_at was e + old_length (whole_pieces was e)
 
   moov_length : length (spell_all (was.movie ∷ slot_behind was e)) ≡ length (header_bytes was.movie.form was.movie.id (length was.movie.body)) + length was.movie.body + length (spell_all (slot_behind was e))
@@ -234,7 +234,7 @@ module _ (o : List ℕ) (bytes : IsBytes o) (sup : Readable o) (e : Changes) whe
   body_length : length was.movie.body ≡ length (spell_all (kids o bytes sup)) + length (moov_left o bytes sup)
   body_length = ap length (sym (kids_joined o bytes sup)) ∙ length-append (spell_all (kids o bytes sup)) (moov_left o bytes sup)
 
-  inside_file : slots_end ≤ length o
+  pub inside_file : slots_end ≤ length o
   inside_file =
       let all : spell_all (all_atoms was) ≡ spell_all was.before ++ (spell_all (was.movie ∷ slot_behind was e) ++ spell_all (rest_behind was e))
       = ap (λ (cs : List Chunk). spell_all (was.before ++ was.movie ∷ cs)) (sym (behind_split was e)) ∙ spell_all-append was.before ((was.movie ∷ slot_behind was e) ++ rest_behind was e)
@@ -256,9 +256,9 @@ module _ (o : List ℕ) (bytes : IsBytes o) (sup : Readable o) (e : Changes) whe
   pub slots_ascend : Ascend 0 (edit_cuts was e) (length o)
   slots_ascend = ascend_more 0 slots_end (length o) (edit_cuts was e) inside_file (cuts_ascend (fill (ends_file was e)) (kids_at was e) (whole_pieces was e) 0 (omega arith))
 
-  -- a place that an mdat holds is in none of them
-  pub held_outside : (p : ℕ) (x : ℕ × List ℕ) → held 0 p (all_atoms was) ≡ Some x → Outside (edit_cuts was e) p
-  held_outside p x h = go (cases_lt p (length (spell_all was.before)))
+  -- a place that an mdat holds stands before moov or behind all slots
+  pub held_sides : (p : ℕ) (x : ℕ × List ℕ) → held 0 p (all_atoms was) ≡ Some x → (p < length (spell_all was.before)) ⊎ ((slots_end ≤ p) × (length (spell_all was.before) + length (spell was.movie) ≤ p))
+  held_sides p x h = go (cases_lt p (length (spell_all was.before)))
     where
       no : is_mdat was.movie ≡ false
       no = rw sup.movie.is_moov refl
@@ -266,14 +266,21 @@ module _ (o : List ℕ) (bytes : IsBytes o) (sup : Readable o) (e : Changes) whe
       there : held 0 p (was.before ++ ((was.movie ∷ slot_behind was e) ++ rest_behind was e)) ≡ Some x
       there = ap (λ (cs : List Chunk). held 0 p (was.before ++ was.movie ∷ cs)) (behind_split was e) ∙ h
 
-      go : (p < length (spell_all was.before)) ⊎ (length (spell_all was.before) ≤ p) → Outside (edit_cuts was e) p
-      go (inl lt) = (before_stays (edit_cuts was e) p (before_all (fill (ends_file was e)) (kids_at was e) (whole_pieces was e) p (omega arith))).0
+      go : (p < length (spell_all was.before)) ⊎ (length (spell_all was.before) ≤ p) → (p < length (spell_all was.before)) ⊎ ((slots_end ≤ p) × (length (spell_all was.before) + length (spell was.movie) ≤ p))
+      go (inl lt) = inl lt
       go (inr le) =
           let k = numbered 0 was.before in
           let past : held k (p - length (spell_all was.before)) ((was.movie ∷ slot_behind was e) ++ rest_behind was e) ≡ Some x = sym (held_past 0 p was.before ((was.movie ∷ slot_behind was e) ++ rest_behind was e) le) ∙ there in
           let r = held_skip k (p - length (spell_all was.before)) (was.movie ∷ slot_behind was e) (rest_behind was e) x (no, slot_no_mdats was e) past in
-          let far : slots_end ≤ p = omega (arith, le, r.0, moov_length, body_length, whole_old was e, kept_bytes was e) in
-          (past_moves (fill (ends_file was e)) (kids_at was e) (whole_pieces was e) p (whole_brings was e) far).0
+          inr (omega (arith, le, r.0, moov_length, body_length, whole_old was e, kept_bytes was e), omega (arith, le, r.0, length-append (spell was.movie) (spell_all (slot_behind was e))))
+
+  -- it is in none of them
+  pub held_outside : (p : ℕ) (x : ℕ × List ℕ) → held 0 p (all_atoms was) ≡ Some x → Outside (edit_cuts was e) p
+  held_outside p x h = go (held_sides p x h)
+    where
+      go : (p < length (spell_all was.before)) ⊎ ((slots_end ≤ p) × (length (spell_all was.before) + length (spell was.movie) ≤ p)) → Outside (edit_cuts was e) p
+      go (inl lt) = (before_stays (edit_cuts was e) p (before_all (fill (ends_file was e)) (kids_at was e) (whole_pieces was e) p (omega arith))).0
+      go (inr far) = (past_moves (fill (ends_file was e)) (kids_at was e) (whole_pieces was e) p (whole_brings was e) far.0).0
 
   pub put_law : (p : ℕ) (x : ℕ × List ℕ) → held 0 p (all_atoms was) ≡ Some x → place (moves_of (edit_cuts was e) (length o)) p ≡ Some (shift (edit_cuts was e) p)
   put_law p x h =

@@ -2,34 +2,24 @@
 use Rattle.std.proofs.Common.{◌≡◌, ℕ, Bool, true, false, cond, List, [], ◌∷◌, ◌++◌, Option, Some, None, inl, inr, map, refl, sym, ap, ◌∙◌}
 use Rattle.std.specs.Prelude.{◌||◌, ◌⊎◌, option_map}
 use Rattle.std.specs.Str.{bytes_eq}
-use Rattle.std.specs.List.{AllByRecursion, cons_option, filter_map, list_any}
+use Rattle.std.specs.List.{AllByRecursion, list_any}
 use Rattle.part_tree.specs.Keys.{is_key_name}
 use Rattle.part_tree.specs.Names.{IsFieldName, is_user_type, same_name}
 use Rattle.part_tree.specs.declared.names.FourCc.{FourCc}
-use Rattle.part_tree.specs.declared.field.Change.{Change}
-use Rattle.part_tree.specs.declared.field.Change.TheVariants.{Set, Remove}
 use Rattle.part_tree.specs.declared.field.EditItem.{EditItem}
 use Rattle.part_tree.specs.declared.field.FieldName.{FieldName}
 use Rattle.part_tree.specs.declared.field.FieldName.TheVariants.{Bext, Info, Whole, User, Key, Stream}
 use Rattle.part_tree.specs.declared.field.Value.{Value}
-use Rattle.field_model.specs.Fields.{FieldMap, plain}
+use Rattle.field_model.specs.Fields.{plain}
 use Rattle.field_model.specs.Kind.{NamesFields}
-use Rattle.field_model.specs.Raw.{raw_of}
-use Rattle.field_model.specs.Update.{RawItem, effective, has_effect, is_bext, raw_change, raw_item, raw_items, update, updated_values}
+use Rattle.field_model.specs.Update.{RawItem, is_bext, raw_items, update, updated_values}
+use Rattle.field_model.proofs.Changed.{raws_named}
+use Rattle.field_model.proofs.Same.{same_either}
 use Rattle.container_model.specs.Items.{updated}
-use Rattle.container_model.proofs.Items.{same_true, same_refl}
+use Rattle.container_model.proofs.Items.{same_true}
 use Rattle.mov_model.specs.Edited.{changed_by, changes, fields, key_item, user_item}
 use Rattle.mov_model.proofs.Fits.{user_values, values_of_key}
 use Rattle.mov_model.proofs.Rules.{AreMov, IsMovItem, IsPlain}
-
-same_either : (a b : List ℕ) → bytes_eq a b ≡ bytes_eq b a
-same_either a b = go (bytes_eq a b) (bytes_eq b a) refl refl
-  where
-    go : (t u : Bool) → bytes_eq a b ≡ t → bytes_eq b a ≡ u → t ≡ u
-    go true true e i = refl
-    go false false e i = refl
-    go true false e i = let same : a ≡ b = same_true a b e in let yes : bytes_eq b a ≡ true = rw same (same_refl b) in absurd cc
-    go false true e i = let same : b ≡ a = same_true b a i in let yes : bytes_eq a b ≡ true = rw same (same_refl a) in absurd cc
 
 -- two names of which one has a property and the other hasn't
 apart_by : (p : List ℕ → Bool) (a b : List ℕ) → p a ≡ false → p b ≡ true → bytes_eq a b ≡ false
@@ -133,27 +123,6 @@ no_bext (r ∷ rs) u = go r.name r.value u.0 (no_bext rs u.1)
 abbrev AreFields : List RawItem → Type 0
 AreFields rs = AllByRecursion (λ (r : RawItem). IsFieldName r.name) rs
 
-given : (name : FieldName) (change : Change) (rs : List RawItem) → IsFieldName name → AreFields rs → AreFields (cons_option (raw_change name change) rs)
-given (Bext field) Remove rs n h = (n, h)
-given (Info id) Remove rs n h = (n, h)
-given (Whole id) Remove rs n h = (n, h)
-given (User id) Remove rs n h = (n, h)
-given (Key k) Remove rs n h = (n, h)
-given (Stream k) Remove rs n h = (n, h)
-given name (Set text) rs n h = go (raw_of name text)
-  where
-    go : (o : Option (List ℕ)) → AreFields (cons_option (option_map (Rattle.field_model.specs.Update.written name) o) rs)
-    go None = h
-    go (Some raw) = (n, h)
-
-named_raw : (f : FieldMap) (e : List EditItem) → NamesFields e → AreFields (raw_items f e)
-named_raw f [] h = tt
-named_raw f (i ∷ e) h = go (has_effect f i) (named_raw f e h.1)
-  where
-    go : (t : Bool) → AreFields (raw_items f e) → AreFields (filter_map raw_item (cond t (i ∷ effective f e) (effective f e)))
-    go true g = given i.name i.change (raw_items f e) h.0 g
-    go false g = g
-
 -- a type that is none of user items has no item
 users_other : (rs : List RawItem) (id : List ℕ) (vs : List Value) → is_user_type id ≡ false → updated (changed_by rs).users id vs ≡ vs
 users_other [] id vs n = refl
@@ -204,7 +173,7 @@ read_back o n e u users keys (User id) h = go (is_user_type id.0) refl h
     go : (t : Bool) → is_user_type id.0 ≡ t → IsFieldName (User id) ⊎ NamesFields e → fields n (User id) ≡ update (fields o) e (User id)
     go true i h = users id.0 ∙ users_same (raw_items (fields o) e) id (fields o (User id)) i u
     go false i (inl f) = users id.0 ∙ users_same (raw_items (fields o) e) id (fields o (User id)) f u
-    go false i (inr names) = users id.0 ∙ users_other (raw_items (fields o) e) id.0 (user_values o id.0) i ∙ sym (user_other (raw_items (fields o) e) id (user_values o id.0) i (named_raw (fields o) e names))
+    go false i (inr names) = users id.0 ∙ users_other (raw_items (fields o) e) id.0 (user_values o id.0) i ∙ sym (user_other (raw_items (fields o) e) id (user_values o id.0) i (raws_named IsFieldName (fields o) e names))
 read_back o n e u users keys (Key key) h = go (is_key_name key) refl h
   where
     rs : List RawItem
@@ -213,7 +182,7 @@ read_back o n e u users keys (Key key) h = go (is_key_name key) refl h
     go : (t : Bool) → is_key_name key ≡ t → IsFieldName (Key key) ⊎ NamesFields e → cond t (map plain (values_of_key n key)) [] ≡ updated_values (raw_items (fields o) e) (Key key) (cond t (map plain (values_of_key o key)) [])
     go true i h = ap (map plain) (keys key) ∙ keys_same (raw_items (fields o) e) key (values_of_key o key) i u
     go false i (inl f) = absurd cc
-    go false i (inr names) = sym (key_other (raw_items (fields o) e) key [] i (named_raw (fields o) e names))
+    go false i (inr names) = sym (key_other (raw_items (fields o) e) key [] i (raws_named IsFieldName (fields o) e names))
 read_back o n e u users keys (Info id) h = sym (none_named (Info id) (info_unnamed id) (raw_items (fields o) e) [] u)
 read_back o n e u users keys (Whole id) h = sym (none_named (Whole id) (whole_unnamed id) (raw_items (fields o) e) [] u)
 read_back o n e u users keys (Stream k) h = sym (none_named (Stream k) (stream_unnamed k) (raw_items (fields o) e) [] u)

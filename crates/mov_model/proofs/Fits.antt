@@ -54,6 +54,13 @@ pub record CanSet (e : Changes) : Type 0 where
 abbrev pub SmallBody : Chunk → Type 0
 SmallBody c = length c.body ≤ 2 ^ 24
 
+-- The carriers are small, edited or new.
+pub record SmallCarriers (m : Movie) (e : Changes) : Type 0 where
+  pub user_small : AllByRecursion (λ c. SmallBody (edit_carrier udta user_items e.users c)) (first_of is_user (parts m))
+  pub fresh_small : list_any is_user (parts m) ≡ false → IfSome (fresh udta (put_all user_items e.users [])) SmallBody
+  pub keys_small : AllByRecursion (λ c. SmallBody (edit_meta e.keys c)) (first_of is_meta (parts m))
+  pub new_keys_small : list_any is_meta (parts m) ≡ false → IfSome (new_meta e.keys) SmallBody
+
 -- Nothing is too large.
 pub record Fits (m : Movie) (e : Changes) : Type 0 where
   pub user_small : AllByRecursion (λ c. SmallBody (edit_carrier udta user_items e.users c)) (first_of is_user (parts m))
@@ -63,3 +70,6 @@ pub record Fits (m : Movie) (e : Changes) : Type 0 where
   pub movie_small : length (spell (new_movie m e).movie) ≤ 2 ^ 26
   pub rows : AllByRecursion (λ t. AllByRecursion (FitsRows (shift (edit_cuts m e))) (tables t)) (tracks m)
   pub few_parts : count_parts (new_movie m e) ≤ 65536
+
+pub small_carriers : (m : Movie) (e : Changes) → Fits m e → SmallCarriers m e
+small_carriers m e f = record { user_small = f.user_small; fresh_small = f.fresh_small; keys_small = f.keys_small; new_keys_small = f.new_keys_small }

@@ -44,10 +44,10 @@ module _ (m : Movie) (e : Changes) (joined : spell_all (atoms_in m.movie).chunks
   abbrev ps : List Piece
   ps = pieces_of m e
 
-  fixed : Fixed g ps
+  pub fixed : Fixed g ps
   fixed = fixed_units g shut (carried (steps e) (map cell_of (atoms_in m.movie).chunks)) tt (fixed_carried g (λ c n. relocated_other (shift (edit_cuts m e)) c n) e (atoms_in m.movie).chunks fine)
 
-  fixed_whole : Fixed g (whole_pieces m e)
+  pub fixed_whole : Fixed g (whole_pieces m e)
   fixed_whole = go (is_open m e)
     where
       go : (t : Bool) → Fixed g (cond t (grown (spell_all (gaps_of m.behind)) ps) ps)

@@ -1,41 +1,30 @@
 -- The new file is the old one with the header of moov, the rows of its tables and the slots of units replaced.
-use Rattle.std.proofs.Common.{◌≡◌, ℕ, ◌+◌, ◌-◌, ◌≤◌, Bool, true, false, cond, List, [], ◌∷◌, ◌++◌, length, map, take, drop, refl, sym, ap, subst, ◌∙◌, append_assoc, arith}
+use Rattle.std.proofs.Common.{◌≡◌, ℕ, ◌+◌, ◌-◌, ◌≤◌, false, List, [], ◌∷◌, ◌++◌, length, map, take, drop, refl, sym, ap, subst, ◌∙◌, append_assoc, arith}
 use Rattle.std.specs.List.{flat_map, AllByRecursion}
 use Rattle.std.proofs.lemmas.List.{length-append, take_at, drop_at}
 use Rattle.me_bytes.specs.Bytes.{IsBytes}
 use Rattle.part_tree.specs.declared.field.EditItem.{EditItem}
 use Rattle.container_model.specs.Chunk.{header_bytes, Chunk, spell_all}
 use Rattle.container_model.specs.Cuts.{cuts_with, changed_piece}
-use Rattle.container_model.specs.Items.{put_all, edit_carrier}
 use Rattle.container_model.specs.Splice.{Ascend, Cut, end_of, shift, splice, splice_from}
-use Rattle.container_model.specs.Units.{lacks_pad, Piece, copied, replaced, shut, old_bytes, lay}
-use Rattle.container_model.proofs.Cuts.{CanMake, AllMake, cuts_ascend_with, lay_splices_with, units_make}
+use Rattle.container_model.specs.Units.{lacks_pad, old_bytes, lay}
+use Rattle.container_model.proofs.Cuts.{CanMake, AllMake, cuts_ascend_with, lay_splices_with}
 use Rattle.container_model.proofs.Deep.{Alike}
-use Rattle.container_model.proofs.Units.{AllCells, lay_splices, spell_all-append}
-use Rattle.mov_model.specs.Atoms.{cell_of}
+use Rattle.container_model.proofs.Units.{lay_splices, spell_all-append}
 use Rattle.container_model.specs.Atoms.{atoms_in}
-use Rattle.qt_text.specs.User.{user_items, udta}
 use Rattle.mov_model.specs.Tables.{relocated}
-use Rattle.carrier_model.specs.Steps.{carried}
-use Rattle.mov_model.specs.Carried.{Changes, fresh, steps}
+use Rattle.mov_model.specs.Carried.{Changes}
 use Rattle.mov_model.specs.Movie.{Movie, spell_movie, movie_of}
-use Rattle.mov_model.specs.New.{fill, gaps_of, grown, pieces_of, is_open, whole_pieces, ends_file, kids_at, edit_cuts, laid_movie, new_movie, edited_file}
+use Rattle.mov_model.specs.New.{fill, whole_pieces, ends_file, kids_at, edit_cuts, laid_movie, new_movie, edited_file}
 use Rattle.mov_model.specs.Support.{Readable}
 use Rattle.mov_model.specs.Edited.{changes, new_file}
 use Rattle.mov_model.specs.Cuts.{kid_cuts, header_cut, all_cuts}
 use Rattle.mov_model.proofs.Again.{kids, kids_joined, kids_bytes, kids_read, whole_kids, moov_padless, file_bytes}
-use Rattle.mov_model.proofs.Carry.{first_all}
-use Rattle.mov_model.proofs.Cells.{Brings, all_carried, all_chunks, atoms_now, is_user, meta_sort, user_sort}
-use Rattle.carrier_model.specs.Lists.{sets_some}
-use Rattle.mov_model.specs.Keys.{edit_meta, is_meta, new_table, with_keys}
-use Rattle.qt_keys.specs.Table.{table_bytes}
-use Rattle.std.specs.Prelude.{IfSome, codes}
-use Rattle.std.proofs.Common.{None, Some}
-use Rattle.container_model.specs.Atoms.{atom}
 use Rattle.mov_model.proofs.Clauses.{whole_brings}
 use Rattle.mov_model.proofs.Kids.{KidOk, kids_ok}
 use Rattle.mov_model.proofs.Relocated.{new_inner, kids_all}
 use Rattle.mov_model.proofs.Spans.{around, behind_pieces, laid_inner, old_inner}
+use Rattle.mov_model.proofs.Makes.{pieces_make}
 use Rattle.mov_model.proofs.Tree.{kid_makes, plain_makes}
 use Rattle.mov_model.proofs.Why.{kids_supported}
 
@@ -88,42 +77,8 @@ module _ (m : Movie) (e : Changes) (joined : spell_all (atoms_in m.movie).chunks
   kids_can [] k b = tt
   kids_can (c ∷ cs) k b = (kid_makes f c k.0 b.0, kids_can cs k.1 b.1)
 
-  fresh_can : (items : List Chunk) → IfSome (fresh udta items) Can
-  fresh_can [] = tt
-  fresh_can (c ∷ cs) = plain_makes f (udta.fresh (c ∷ cs)) refl
-
-  meta_can : (t : Bool) (b : List ℕ) → IfSome (cond t (Some (atom (codes "meta") b)) None) Can
-  meta_can true b = plain_makes f (atom (codes "meta") b) refl
-  meta_can false b = tt
-
-  brings_can : (cs : List Chunk) → AllByRecursion Can cs → Brings Can e cs
-  brings_can cs h = record {
-    users = first_all is_user Can (λ c. Can (edit_carrier udta user_items e.users c)) (λ c u k. plain_makes f (edit_carrier udta user_items e.users c) (user_sort.no_track c u)) cs h;
-    new_user = λ none. fresh_can (put_all user_items e.users []);
-    keys = first_all is_meta Can (λ c. Can (edit_meta e.keys c)) (λ c u k. plain_makes f (edit_meta e.keys c) (meta_sort.no_track c u)) cs h;
-    new_keys = λ none. meta_can (sets_some e.keys) (table_bytes (with_keys e.keys new_table));
-  }
-
-  cells_can : AllCells Can (carried (steps e) (map cell_of (atoms_in m.movie).chunks))
-  cells_can =
-      let cs = (atoms_in m.movie).chunks in
-      all_carried Can e cs (kids_can cs ok bytes) (λ all. all_chunks Can e (atoms_now cs) all (brings_can (atoms_now cs) all))
-
-  grown_makes : (more : List ℕ) (ps : List Piece) → AllMake (kid_cuts f) (relocated f) ps → AllMake (kid_cuts f) (relocated f) (grown more ps)
-  grown_makes more [] h = tt
-  grown_makes more (copied c ∷ ps) h = (h.0, grown_makes more ps h.1)
-  grown_makes more (replaced lead slot now true ∷ ps) h = h
-  grown_makes more (replaced lead slot now false ∷ ps) h = grown_makes more ps h
-
   pub whole_makes : AllMake (kid_cuts f) (relocated f) (whole_pieces m e)
-  whole_makes = go (is_open m e)
-    where
-      made : AllMake (kid_cuts f) (relocated f) (pieces_of m e)
-      made = units_make (kid_cuts f) (relocated f) shut (carried (steps e) (map cell_of (atoms_in m.movie).chunks)) cells_can
-
-      go : (t : Bool) → AllMake (kid_cuts f) (relocated f) (cond t (grown (spell_all (gaps_of m.behind)) (pieces_of m e)) (pieces_of m e))
-      go true = grown_makes (spell_all (gaps_of m.behind)) (pieces_of m e) made
-      go false = made
+  whole_makes = pieces_make (kid_cuts f) (relocated f) (plain_makes f) m e (kids_can (atoms_in m.movie).chunks ok bytes)
 
   pub movie_is_spliced : spell_movie (new_movie m e) ≡ splice (spell_movie m) (all_cuts m e)
   movie_is_spliced =

@@ -60,7 +60,7 @@ module _ (f : ℕ → ℕ) where
   opens_by_id stbl a b x y e = refl
   opens_by_id dinf a b x y e = refl
 
-  opens_again : (d : ℕ) (p : Place) (c : Chunk) → Whole format d p c → IsBytes c.body
+  pub opens_again : (d : ℕ) (p : Place) (c : Chunk) → Whole format d p c → IsBytes c.body
       → opens p (mend format (moved_leaf f) d p c).id (take 4 (mend format (moved_leaf f) d p c).body) ≡ opens p c.id (take 4 c.body)
   opens_again d p c w b = opens_by_id p _ c.id _ _ (mend_id d p c)
 

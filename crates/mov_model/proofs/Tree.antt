@@ -84,7 +84,7 @@ module _ (f : ℕ → ℕ) where
         = ap (λ (k : ℕ). header_bytes c.form c.id k ++ (with_rows w f c ++ c.pad)) same_len ∙ ap (λ (y : List ℕ). head ++ (y ++ c.pad)) body in
         ap (λ (y : List ℕ). splice_from at y (x ∷ more)) split ∙ rw (first, last, past, made) (simp append_assoc)
 
-  low_ascend : (low high : ℕ) (cs : List Cut) (end : ℕ) → low ≤ high → Ascend high cs end → Ascend low cs end
+  pub low_ascend : (low high : ℕ) (cs : List Cut) (end : ℕ) → low ≤ high → Ascend high cs end → Ascend low cs end
   low_ascend low high [] end le h = omega arith
   low_ascend low high (c ∷ cs) end le h = (omega (arith, h.0), h.1)
 
@@ -99,11 +99,11 @@ module _ (f : ℕ → ℕ) where
     pub ascend : (more : List Cut) (end : ℕ) → Ascend (at + length (spell c)) more end → Ascend at (cs ++ more) end
     pub turns : (rest : List ℕ) (more : List Cut) → From (at + length (spell c)) more → splice_from at (spell c ++ rest) (cs ++ more) ≡ spell d ++ splice_from (at + length (spell c)) rest more
 
-  stays : (at : ℕ) (c : Chunk) → Turns [] at c c
+  pub stays : (at : ℕ) (c : Chunk) → Turns [] at c c
   stays at c = record { from = λ more h. none_from (λ x. x) at c more h; ascend = λ more end h. low_ascend at (at + length (spell c)) more end (omega arith) h; turns = λ rest more h. none_makes at c rest more h }
 
   -- a table in stbl
-  table_turns : (at : ℕ) (c : Chunk) → is_short_table c ≡ false → Turns (map (table_cut f c) (tables_at at c)) at c (record c { body = moved_body f c })
+  pub table_turns : (at : ℕ) (c : Chunk) → is_short_table c ≡ false → Turns (map (table_cut f c) (tables_at at c)) at c (record c { body = moved_body f c })
   table_turns at c short = go (is c (codes "stco")) (is c (codes "co64")) refl refl
     where
       l : LongRows c

@@ -74,6 +74,18 @@ numbers_again (n ∷ ns) rest h =
 
 -- ---- a table
 
+-- the count of a table stands in its first eight bytes
+pub four_of : (b : List ℕ) → take 4 (drop 4 (take 8 b)) ≡ take 4 (drop 4 b)
+four_of [] = refl
+four_of (a ∷ []) = refl
+four_of (a ∷ (b ∷ [])) = refl
+four_of (a ∷ (b ∷ (c ∷ []))) = refl
+four_of (a ∷ (b ∷ (c ∷ (d ∷ [])))) = refl
+four_of (a ∷ (b ∷ (c ∷ (d ∷ (e ∷ []))))) = refl
+four_of (a ∷ (b ∷ (c ∷ (d ∷ (e ∷ (g ∷ [])))))) = refl
+four_of (a ∷ (b ∷ (c ∷ (d ∷ (e ∷ (g ∷ (h ∷ []))))))) = refl
+four_of (a ∷ (b ∷ (c ∷ (d ∷ (e ∷ (g ∷ (h ∷ (i ∷ x)))))))) = refl
+
 module _ (c : Chunk) (long : 8 + 4 * count c ≤ length c.body) (bytes : IsBytes c.body) where
   abbrev front : List ℕ
   front = take 8 c.body
@@ -91,22 +103,11 @@ module _ (c : Chunk) (long : 8 + 4 * count c ≤ length c.body) (bytes : IsBytes
   pub wide_bytes : IsBytes (wide_body c)
   wide_bytes = join (take 8 c.body) (spelled be64 (rows be32 c) ++ tail) (IsBytes-take 8 c.body bytes) (join (spelled be64 (rows be32 c)) tail (spelled_bytes (rows be32 c)) (IsBytes-drop (8 + 4 * count c) c.body bytes))
 
-  take_front : take 8 (wide_body c) ≡ take 8 c.body
+  pub take_front : take 8 (wide_body c) ≡ take 8 c.body
   take_front = take_at (take 8 c.body) (spelled be64 (rows be32 c) ++ tail) 8 front_length
 
   drop_front : drop 8 (wide_body c) ≡ spelled be64 (rows be32 c) ++ tail
   drop_front = drop_at (take 8 c.body) (spelled be64 (rows be32 c) ++ tail) 8 front_length
-
-  four_of : (b : List ℕ) → take 4 (drop 4 (take 8 b)) ≡ take 4 (drop 4 b)
-  four_of [] = refl
-  four_of (a ∷ []) = refl
-  four_of (a ∷ (b ∷ [])) = refl
-  four_of (a ∷ (b ∷ (c ∷ []))) = refl
-  four_of (a ∷ (b ∷ (c ∷ (d ∷ [])))) = refl
-  four_of (a ∷ (b ∷ (c ∷ (d ∷ (e ∷ []))))) = refl
-  four_of (a ∷ (b ∷ (c ∷ (d ∷ (e ∷ (g ∷ [])))))) = refl
-  four_of (a ∷ (b ∷ (c ∷ (d ∷ (e ∷ (g ∷ (h ∷ []))))))) = refl
-  four_of (a ∷ (b ∷ (c ∷ (d ∷ (e ∷ (g ∷ (h ∷ (i ∷ x)))))))) = refl
 
   pub count_wide : count (record c { id = codes "co64"; body = wide_body c }) ≡ count c
   count_wide = ap (from_be_bytes w32) (sym (four_of (wide_body c)) ∙ ap (λ (x : List ℕ). take 4 (drop 4 x)) take_front ∙ four_of c.body)
@@ -191,12 +192,12 @@ zeros_wide : (c : Chunk) → 8 + 4 * count c ≤ length c.body → IsBytes c.bod
 zeros_wide c long bytes =
     let n = count c in
     let f = take 8 c.body in
-    let z = replicate (4 * n) 0 in
+    let z : List ℕ = replicate (4 * n) 0 in
     let tail = drop (8 + 4 * n) c.body in
     let flen : length f ≡ 8 = omega (arith, length-take 8 c.body, long) in
     let l = f ++ (z ++ tail) in
     let front : take 8 l ≡ f = take_at f (z ++ tail) 8 flen in
-    let number : from_be_bytes w32 (take 4 (drop 4 l)) ≡ n = ap (from_be_bytes w32) (sym (four_of c long bytes l) ∙ ap (λ (x : List ℕ). take 4 (drop 4 x)) front ∙ four_of c long bytes c.body) in
+    let number : from_be_bytes w32 (take 4 (drop 4 l)) ≡ n = ap (from_be_bytes w32) (sym (four_of l) ∙ ap (λ (x : List ℕ). take 4 (drop 4 x)) front ∙ four_of c.body) in
     let behind : drop (8 + 4 * n) l ≡ tail
     = sym (drop-drop (4 * n) 8 l) ∙ ap (drop (4 * n)) (drop_at f (z ++ tail) 8 flen) ∙ drop_at z tail (4 * n) (length-replicate (4 * n) 0) in
     let d = record c { id = codes "co64"; body = wide_body c } in

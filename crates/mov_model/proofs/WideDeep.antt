@@ -35,7 +35,7 @@ id_bytes : (form : Form) (id : List ℕ) (n : ℕ) → (form ≡ short) ⊎ (for
 id_bytes form id n (inl e) h = IsBytes-behind (to_be_bytes w32 (n + 8)) id (subst (λ (g : Form). IsBytes (header_bytes g id n)) e h)
 id_bytes form id n (inr e) h = IsBytes-front id (to_be_bytes w64 (n + 16)) (IsBytes-behind (to_be_bytes w32 1) (id ++ to_be_bytes w64 (n + 16)) (subst (λ (g : Form). IsBytes (header_bytes g id n)) e h))
 
-head_length : (form : Form) (a b : List ℕ) (n k : ℕ) → (form ≡ short) ⊎ (form ≡ long) → length a ≡ length b → length (header_bytes form a n) ≡ length (header_bytes form b k)
+pub head_length : (form : Form) (a b : List ℕ) (n k : ℕ) → (form ≡ short) ⊎ (form ≡ long) → length a ≡ length b → length (header_bytes form a n) ≡ length (header_bytes form b k)
 head_length form a b n k (inl e) l = rw e (omega (arith, l))
 head_length form a b n k (inr e) l =
     rw e (omega (arith, l, length-append a (to_be_bytes w64 (n + 16)), length-append b (to_be_bytes w64 (k + 16)), length-append (to_be_bytes w32 1) (a ++ to_be_bytes w64 (n + 16)), length-append (to_be_bytes w32 1) (b ++ to_be_bytes w64 (k + 16))))
@@ -235,7 +235,7 @@ opens_word stbl id x y = refl
 opens_word dinf id x y = refl
 
 -- what was read inside an atom
-kids_ready : (d : ℕ) (q : Place) (c : Chunk) → IsBytes c.body → (kids format q c).stop ≡ ends → AllByRecursion (Whole format d q) (kids format q c).chunks → LongLeaves (flat_map (leaves format d q) (kids format q c).chunks) → length c.body ≤ 2 ^ 26
+pub kids_ready : (d : ℕ) (q : Place) (c : Chunk) → IsBytes c.body → (kids format q c).stop ≡ ends → AllByRecursion (Whole format d q) (kids format q c).chunks → LongLeaves (flat_map (leaves format d q) (kids format q c).chunks) → length c.body ≤ 2 ^ 26
     → AllReady d q (kids format q c).chunks × (atom_front inside (kids format q c).left ≡ too_short) × (spell_all (kids format q c).chunks ++ (kids format q c).left ≡ c.body)
 kids_ready d q c bytes stop w t small =
     let k = kids format q c in

@@ -67,7 +67,7 @@ other_wide c e = go (is c (codes "stco")) e
     go true e = refl
     go false e = e
 
-no_stco : (c : Chunk) → is (wide_table c) (codes "stco") ≡ false
+pub no_stco : (c : Chunk) → is (wide_table c) (codes "stco") ≡ false
 no_stco c = go (is c (codes "stco")) refl
   where
     go : (t : Bool) → is c (codes "stco") ≡ t → is (cond t (record c { id = codes "co64"; body = Rattle.mov_model.specs.Widen.wide_body c }) c) (codes "stco") ≡ false
@@ -75,14 +75,14 @@ no_stco c = go (is c (codes "stco")) refl
     go false e = e
 
 -- what is asked of tables, and what they are with wide places
-record TablesWide (ts : List Chunk) : Type 0 where
-  others : AllByRecursion (λ c. is_other_offsets c ≡ false) (map wide_table ts)
-  long : AllByRecursion (λ c. is_short_table c ≡ false) (map wide_table ts)
-  places_same : places (map wide_table ts) ≡ places ts
-  runs_same : flat_map runs_in (map wide_table ts) ≡ flat_map runs_in ts
-  sizes_same : flat_map sizes_in (map wide_table ts) ≡ flat_map sizes_in ts
+pub record TablesWide (ts : List Chunk) : Type 0 where
+  pub others : AllByRecursion (λ c. is_other_offsets c ≡ false) (map wide_table ts)
+  pub long : AllByRecursion (λ c. is_short_table c ≡ false) (map wide_table ts)
+  pub places_same : places (map wide_table ts) ≡ places ts
+  pub runs_same : flat_map runs_in (map wide_table ts) ≡ flat_map runs_in ts
+  pub sizes_same : flat_map sizes_in (map wide_table ts) ≡ flat_map sizes_in ts
 
-tables_fine : (ts : List Chunk) → AllByRecursion (λ c. is_other_offsets c ≡ false) ts → AllByRecursion (λ c. is_short_table c ≡ false) ts → AllByRecursion (λ c. IsBytes c.body) ts → TablesWide ts
+pub tables_fine : (ts : List Chunk) → AllByRecursion (λ c. is_other_offsets c ≡ false) ts → AllByRecursion (λ c. is_short_table c ≡ false) ts → AllByRecursion (λ c. IsBytes c.body) ts → TablesWide ts
 tables_fine [] o l b = record { others = tt; long = tt; places_same = refl; runs_same = refl; sizes_same = refl }
 tables_fine (t ∷ ts) o l b =
     let w = wide_tables t l.0 b.0 in
@@ -99,7 +99,7 @@ samples_same : (ts us : List Chunk) (tails : List (List ℕ)) → flat_map runs_
 samples_same ts us tails r s = rw (r, s) refl
 
 -- places that fit in eight bytes, where there is no table of four
-fits_wide : (f : ℕ → ℕ) (ts : List Chunk) → AllByRecursion (λ p. f p < 2 ^ 64) (places (map wide_table ts)) → AllByRecursion (FitsRows f) (map wide_table ts)
+pub fits_wide : (f : ℕ → ℕ) (ts : List Chunk) → AllByRecursion (λ p. f p < 2 ^ 64) (places (map wide_table ts)) → AllByRecursion (FitsRows f) (map wide_table ts)
 fits_wide f [] h = tt
 fits_wide f (t ∷ ts) h =
     let d = wide_table t in
@@ -149,10 +149,10 @@ module _ (o : List ℕ) (bytes : IsBytes o) (sup : Readable o) (small : length (
         length-append b.body b.pad,
       )
 
-  new_length : length (spell new.movie) ≡ length (spell old.movie) + growth old
+  pub new_length : length (spell new.movie) ≡ length (spell old.movie) + growth old
   new_length = omega (arith, same_length, moov_longer)
 
-  before_stays : (p : ℕ) → p < length (spell_all old.before) → f p ≡ p
+  pub before_stays : (p : ℕ) → p < length (spell_all old.before) → f p ≡ p
   before_stays p lt = cond-true (ltb p (moov_end old)) p (p + growth old) (lt-ltb p (moov_end old) (omega arith))
 
   behind_moves : (p : ℕ) → length (spell_all old.before) + length (spell_all (old.movie ∷ [])) ≤ p
@@ -180,13 +180,13 @@ module _ (o : List ℕ) (bytes : IsBytes o) (sup : Readable o) (small : length (
       ap (λ (r : Run). solids is_padding r.chunks) (moov_wide o bytes sup small f) ∙ solids_map (relocated f) (relocated_id f) (relocated_pad f) (map wide_atom (kids o bytes sup))
       ∙ ap (map (relocated f)) (solids_map wide_atom wide_id wide_pad (kids o bytes sup))
 
-  tracks_are : tracks new ≡ map (relocated f) (map wide_atom (tracks old))
+  pub tracks_are : tracks new ≡ map (relocated f) (map wide_atom (tracks old))
   tracks_are = ap (flat_map track_of) parts_are ∙ tracks_relocated f (map wide_atom (parts old)) ∙ ap (map (relocated f)) (tracks_wide (parts old))
 
   abbrev IsWide : Chunk → Type 0
   IsWide c = Wide 5 moov c (wide_atom c)
 
-  parts_wide : AllByRecursion IsWide (parts old)
+  pub parts_wide : AllByRecursion IsWide (parts old)
   parts_wide = drop_pads (parts old) (all_solids Padless (λ c q. (refl, subst IsWide (ap (λ (x : List ℕ). record c { pad = x }) q.0) q.1)) (kids o bytes sup) (padless (kids o bytes sup) (Rattle.mov_model.proofs.Again.kids_read o bytes sup).0 (wide_each o bytes sup small)))
     where
       Padless : Chunk → Type 0
@@ -212,7 +212,7 @@ module _ (o : List ℕ) (bytes : IsBytes o) (sup : Readable o) (small : length (
   tables_of_track : (t : Chunk) → IsWide t → TrackFine (all_atoms old) t → TablesWide (tables t)
   tables_of_track t w fine = tables_fine (tables t) fine.no_other_offsets fine.long_tables w.table_bytes
 
-  tables_are : (t : Chunk) → IsWide t → tables (relocated f (wide_atom t)) ≡ map (moved_table f) (map wide_table (tables t))
+  pub tables_are : (t : Chunk) → IsWide t → tables (relocated f (wide_atom t)) ≡ map (moved_table f) (map wide_table (tables t))
   tables_are t w = relocated_tables f (wide_atom t) w.whole (atom_bytes t w) ∙ ap (map (moved_table f)) (wide_track_tables t w)
 
   places_are : (t : Chunk) → IsWide t → TrackFine (all_atoms old) t → FitsEight t → places (map (moved_table f) (map wide_table (tables t))) ≡ map f (places (tables t))

@@ -21,7 +21,7 @@ use Rattle.mov_model.specs.Widen.{growth, moov_end, past_moov, wide_at, wide_ato
 use Rattle.mov_model.proofs.Again.{Kid, at_moov, before_read, kids, kids_all_bytes, kids_alike, kids_both, kids_joined, kids_moved, kids_read, moov_left, mov, split_again, whole, whole_kids}
 use Rattle.mov_model.proofs.Carry.{Sort, strip}
 use Rattle.mov_model.proofs.Kids.{KidOk, kids_ok, track_from}
-use Rattle.mov_model.proofs.WideDeep.{AllWide, LongLeaves, Wide, all_wide, tables_of, wide_deep, wide_of}
+use Rattle.mov_model.proofs.WideDeep.{AllReady, AllWide, LongLeaves, Wide, all_wide, tables_of, wide_deep, wide_of}
 use Rattle.mov_model.proofs.Why.{kids_supported}
 use Rattle.sample_tables.specs.Tables.{is_short_table}
 
@@ -148,10 +148,10 @@ module _ (o : List ℕ) (bytes : IsBytes o) (sup : Readable o) (small : length (
   kids_spelled : IsBytes (spell_all ks)
   kids_spelled = IsBytes-front (spell_all ks) (moov_left o bytes sup) (kids_all_bytes o bytes sup)
 
-  kids_small : length (spell_all ks) ≤ 2 ^ 26
+  pub kids_small : length (spell_all ks) ≤ 2 ^ 26
   kids_small = omega (arith, body_small, ap length (kids_joined o bytes sup), length-append (spell_all ks) (moov_left o bytes sup))
 
-  kids_are_ok : AllByRecursion KidOk ks
+  pub kids_are_ok : AllByRecursion KidOk ks
   kids_are_ok = kids_ok ks (kids_supported o sup)
 
   whole_ks : AllByRecursion (Whole format 5 moov) ks
@@ -160,8 +160,11 @@ module _ (o : List ℕ) (bytes : IsBytes o) (sup : Readable o) (small : length (
   pub wide_each : AllByRecursion (λ c. Wide 5 moov c (wide_atom c)) ks
   wide_each = each_wide ks kids_are_ok (kids_read o bytes sup).0 kids_spelled whole_ks kids_small
 
+  pub all_ready : AllReady 5 moov ks
+  all_ready = record { read = (kids_read o bytes sup).0; bytes = kids_spelled; whole = whole_ks; tables = long_all ks kids_are_ok; small = kids_small }
+
   pub wide_all : AllWide 5 moov ks ws
-  wide_all = all_wide 5 moov wide_atom (wide_deep 5 moov) ks (record { read = (kids_read o bytes sup).0; bytes = kids_spelled; whole = whole_ks; tables = long_all ks kids_are_ok; small = kids_small })
+  wide_all = all_wide 5 moov wide_atom (wide_deep 5 moov) ks all_ready
 
   pub ws_bytes : AllByRecursion (λ c. IsBytes c.body) ws
   ws_bytes = bytes_of ws [] (subst IsBytes (sym (append-nil (spell_all ws))) wide_all.bytes)
@@ -173,7 +176,7 @@ module _ (o : List ℕ) (bytes : IsBytes o) (sup : Readable o) (small : length (
     kids_f : AllByRecursion (Kid f) ws
     kids_f = kids_both f ws wide_all.read ws_bytes wide_all.whole
 
-    es_read : AllByRecursion (Atom inside) es
+    pub es_read : AllByRecursion (Atom inside) es
     es_read = kids_moved f ws kids_f
 
     pub es_length : length (spell_all es) ≡ length (spell_all ws)

@@ -6,7 +6,7 @@ use Rattle.std.proofs.lemmas.Bool.{cases_lt}
 use Rattle.std.proofs.lemmas.List.{at_drop_all, at_drop_more, get_or_default}
 use Rattle.part_tree.specs.declared.field.Value.{Value}
 use Rattle.container_model.specs.Chunk.{Chunk}
-use Rattle.container_model.specs.Items.{Item, has, hits, put_all, put_value, settled}
+use Rattle.container_model.specs.Items.{has, hits, put_all, put_value, settled}
 use Rattle.qt_atoms.specs.declared.header.SizeForm.TheVariants.{Short}
 use Rattle.qt_text.specs.User.{user_items}
 use Rattle.mov_plan.specs.Users.{changes_of, chunk_of}

@@ -1,13 +1,11 @@
 -- The atoms of user data, read one after the other and spelled one after the other.
-use Rattle.std.proofs.Common.{◌≡◌, ◌∙◌, ℕ, ◌+◌, ◌-◌, ◌≤◌, ◌<◌, ◌^◌, List, [], ◌∷◌, ◌++◌, length, map, take, drop, get_or, min, refl, sym, ap, subst, arith, append_assoc, append-nil, length-append, length-drop, zero, suc}
-use Rattle.std.specs.declared.option.Option.TheVariants.{Some, None}
+use Rattle.std.proofs.Common.{◌≡◌, ◌∙◌, ℕ, ◌+◌, ◌-◌, ◌≤◌, ◌<◌, ◌^◌, List, [], ◌∷◌, ◌++◌, length, map, drop, get_or, min, refl, sym, ap, arith, append_assoc, append-nil, length-append, length-drop, zero, suc}
+use Rattle.std.specs.declared.option.Option.TheVariants.{None}
 use Rattle.std.proofs.lemmas.List.{at_drop_all, at_drop_more, take_all}
 use Rattle.container_model.specs.Chunk.{Chunk, Run, and_then, chunks, header_bytes, spell, spell_all}
 use Rattle.container_model.specs.Sizes.{Level, atom_front, user}
 use Rattle.container_model.specs.Windows.{window}
-use Rattle.qt_atoms.specs.Walk.{Stepped, Stuck, atom_in, row}
-use Rattle.qt_atoms.specs.declared.header.SizeForm.{SizeForm}
-use Rattle.qt_atoms.specs.declared.walker.AtomAt.{AtomAt}
+use Rattle.qt_atoms.specs.Walk.{Stepped, Stuck, row}
 use Rattle.qt_atoms.specs.declared.walker.HeaderFault.{HeaderFault}
 use Rattle.qt_atoms.specs.declared.walker.HeaderFault.TheVariants.{SizeSmall, Truncated}
 use Rattle.container_model.specs.Items.{Item, put_all}

@@ -1,5 +1,5 @@
 -- Whether a body is texts, one after the other.
-use Rattle.std.proofs.Common.{◌≡◌, ◌∙◌, ℕ, ◌+◌, ◌≤◌, ◌<◌, Bool, cond, List, length, Option, Some, None, sym, ap, arith}
+use Rattle.std.proofs.Common.{◌≡◌, ◌∙◌, ℕ, ◌+◌, ◌≤◌, ◌<◌, Bool, cond, List, length, Some, None, sym, ap, arith}
 use Rattle.std.proofs.lemmas.Bool.{le-ltb, lt-ltb}
 use Rattle.qt_text.specs.Texts.{text_len_of}
 use Rattle.qt_text.specs.User.{text_size}

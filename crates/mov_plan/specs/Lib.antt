@@ -3,3 +3,13 @@ pub mod Rows
 pub mod Places
 pub mod Edits
 pub mod Users
+pub mod Tables
+pub mod Made
+pub mod Frame
+pub mod Moved
+pub mod Planned
+pub mod Holders
+pub mod Keyed
+pub mod Carry
+pub mod Tracks
+pub mod Atoms

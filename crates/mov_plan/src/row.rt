@@ -24,7 +24,8 @@ pub struct Units {
 impl Units {
     // So many atoms and bytes more. No memory holds as many as 64 bits don't count.
     fn count(&mut self, parts: u64, len: u64) -> Result<(), NoMemory>
-        ensures outcome { OnOk result ((b : List ℕ) → outcome_in b self.new ≡ both (outcome_in b self.old) (counts parts len)) }
+        ensures outcome { OnOk result ((b : List ℕ)
+            → outcome_in b self.new ≡ both (outcome_in b self.old) (counts parts len)) }
         ensures cuts { self.new.cuts ≡ self.old.cuts }
         ensures fits { self.new.fits ≡ self.old.fits }
     {
@@ -39,7 +40,8 @@ impl Units {
 
     // One unit more.
     fn add(&mut self, unit: FilledUnit) -> Result<(), NoMemory>
-        ensures outcome { OnOk result ((b : List ℕ) → outcome_in b self.new ≡ both (outcome_in b self.old) (filled_in b unit)) }
+        ensures outcome { OnOk result ((b : List ℕ)
+            → outcome_in b self.new ≡ both (outcome_in b self.old) (filled_in b unit)) }
         ensures cuts { OnOk result (self.new.cuts.items ≡ self.old.cuts.items ++ unit.cut ∷ []) }
         ensures fits { OnOk result (self.new.fits ≡ (self.old.fits && unit.fits)) }
     {
@@ -67,10 +69,14 @@ impl Units {
     ) -> Result<(), NoMemory>
         requires order { BeginsBefore unit end }
         requires small { end < 2 ^ 63 }
-        ensures outcome { OnOk result ((b : List ℕ) → end ≤ length b → outcome_in b self.new ≡ both (outcome_in b self.old) (closed ends hangs (open_in b end unit))) }
-        ensures so_far { OnOk result ((from : ℕ) → IsSoFar from self.old (open_start unit end) → ends ≡ false → IsSoFar from self.new end) }
-        ensures ascend { OnOk result ((from : ℕ) → IsSoFar from self.old (open_start unit end) → SpansAscend from self.new.cuts.items end) }
-        ensures fits { OnOk result ((from len : ℕ) → IsSoFar from self.old (open_start unit end) → (ends ≡ true → end ≡ len) → self.new.fits ≡ true → FitsIn len self.new.cuts.items) }
+        ensures outcome { OnOk result ((b : List ℕ) → end ≤ length b
+            → outcome_in b self.new ≡ both (outcome_in b self.old) (closed ends hangs (open_in b end unit))) }
+        ensures so_far { OnOk result ((from : ℕ) → IsSoFar from self.old (open_start unit end) → ends ≡ false
+            → IsSoFar from self.new end) }
+        ensures ascend { OnOk result ((from : ℕ) → IsSoFar from self.old (open_start unit end)
+            → SpansAscend from self.new.cuts.items end) }
+        ensures fits { OnOk result ((from len : ℕ) → IsSoFar from self.old (open_start unit end)
+            → (ends ≡ true → end ≡ len) → self.new.fits ≡ true → FitsIn len self.new.cuts.items) }
     {
         match unit {
             None => Ok(()),
@@ -96,7 +102,8 @@ impl Units {
         ensures row { IfOk result (λ o. (b : List ℕ) (x : Beyond) (xs : List Shape) → place.now.next ≤ length b
             → both (outcome_in b self.old) (row x place.now.at (open_in b place.now.at unit) (shape_in b place.now ∷ xs))
             ≡ both (outcome_in b self.new) (row x place.now.next (open_in b place.now.next o) xs)) }
-        ensures so_far { IfOk result (λ o. (from : ℕ) → IsSoFar from self.old (open_start unit place.now.at) → IsSoFar from self.new (open_start o place.now.next)) }
+        ensures so_far { IfOk result (λ o. (from : ℕ) → IsSoFar from self.old (open_start unit place.now.at)
+            → IsSoFar from self.new (open_start o place.now.next)) }
     {
         match &place.what {
             What::Stays => {
@@ -123,9 +130,14 @@ impl Units {
     fn end(&mut self, unit: Option<OpenUnit>, end: u64, behind: Behind) -> Result<(), NoMemory>
         requires order { BeginsBefore unit end }
         requires small { end + behind.gap < 2 ^ 63 }
-        ensures outcome { OnOk result ((b : List ℕ) → end + behind.gap ≤ length b → outcome_in b self.new ≡ both (outcome_in b self.old) (ended (beyond_in b end behind) (open_in b end unit) behind.goes_on)) }
-        ensures ascend { OnOk result ((from : ℕ) → IsSoFar from self.old (open_start unit end) → SpansAscend from self.new.cuts.items (end + behind.gap)) }
-        ensures fits { OnOk result ((from len : ℕ) → IsSoFar from self.old (open_start unit end) → (behind.last ≡ true → end + behind.gap ≡ len) → self.new.fits ≡ true → FitsIn len self.new.cuts.items) }
+        ensures outcome { OnOk result ((b : List ℕ) → end + behind.gap ≤ length b
+            → outcome_in b self.new
+            ≡ both (outcome_in b self.old) (ended (beyond_in b end behind) (open_in b end unit) behind.goes_on)) }
+        ensures ascend { OnOk result ((from : ℕ) → IsSoFar from self.old (open_start unit end)
+            → SpansAscend from self.new.cuts.items (end + behind.gap)) }
+        ensures fits { OnOk result ((from len : ℕ) → IsSoFar from self.old (open_start unit end)
+            → (behind.goes_on ≡ true → behind.last ≡ true → end + behind.gap ≡ len) → self.new.fits ≡ true
+            → FitsIn len self.new.cuts.items) }
     {
         match unit {
             None => {
@@ -155,9 +167,11 @@ pub fn unit_cuts(
 ) -> Result<Units, NoMemory>
     requires follow { Follow from places.now end }
     requires small { end + behind.gap < 2 ^ 63 }
-    ensures outcome { IfOk result (λ u. (b : List ℕ) → end + behind.gap ≤ length b → outcome_in b u ≡ row (beyond_in b end behind) from none (map (shape_in b) places.now)) }
+    ensures outcome { IfOk result (λ u. (b : List ℕ) → end + behind.gap ≤ length b
+        → outcome_in b u ≡ row (beyond_in b end behind) from none (map (shape_in b) places.now)) }
     ensures ascend { IfOk result (λ u. SpansAscend from u.cuts.items (end + behind.gap)) }
-    ensures fits { IfOk result (λ u. (len : ℕ) → (behind.last ≡ true → end + behind.gap ≡ len) → u.fits ≡ true → FitsIn len u.cuts.items) }
+    ensures fits { IfOk result (λ u. (len : ℕ) → (behind.goes_on ≡ true → behind.last ≡ true → end + behind.gap ≡ len)
+        → u.fits ≡ true → FitsIn len u.cuts.items) }
 {
     let mut units = Units {
         cuts: Vec::new(alloc),

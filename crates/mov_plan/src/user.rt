@@ -111,7 +111,8 @@ fn drop_named(items: &mut Vec<UserItem>, kind: &FourCc)
 // The item stands where the first of its type stood, or last, and the others of that type are gone.
 fn put_item(items: &mut Vec<UserItem>, item: UserItem, text: &Value) -> Result<(), NoMemory>
     requires { chunk_of item ≡ user_items.make item.kind.0 text.now }
-    ensures { OnOk result (map chunk_of items.new.items ≡ put_value user_items item.kind.0 (Some text.now) (map chunk_of items.old.items)) }
+    ensures { OnOk result (map chunk_of items.new.items
+        ≡ put_value user_items item.kind.0 (Some text.now) (map chunk_of items.old.items)) }
 {
     let k = first_named(items, &item.kind);
     drop_named(items, &item.kind);
@@ -142,7 +143,8 @@ fn item_with(alloc: Global, kind: FourCc, text: &Value) -> Result<UserItem, NoMe
 // The items of a type get this text alone, or go.
 fn put(items: &mut Vec<UserItem>, alloc: Global, change: &UserChange) -> Result<(), NoMemory>
     requires { CanSet change.now }
-    ensures { OnOk result (map chunk_of items.new.items ≡ put_value user_items change.now.kind.0 change.now.value (map chunk_of items.old.items)) }
+    ensures { OnOk result (map chunk_of items.new.items
+        ≡ put_value user_items change.now.kind.0 change.now.value (map chunk_of items.old.items)) }
 {
     match &change.value {
         None => {
@@ -164,7 +166,8 @@ fn put_changes(
     changes: &[UserChange],
 ) -> Result<(), NoMemory>
     requires { AllByRecursion CanSet changes.now }
-    ensures { OnOk result (map chunk_of items.new.items ≡ put_all user_items (changes_of changes.now) (map chunk_of items.old.items)) }
+    ensures { OnOk result (map chunk_of items.new.items
+        ≡ put_all user_items (changes_of changes.now) (map chunk_of items.old.items)) }
 {
     'changes: for change in changes {
         put(items, alloc, change)?;
@@ -213,8 +216,8 @@ fn read_items(alloc: Global, body: &[u8]) -> Result<UserItems, NoMemory>
     }
 }
 
-// How many letters a type has.
-fn kind_len(kind: FourCc) -> u64
+/// How many letters a type has.
+pub fn kind_len(kind: FourCc) -> u64
     ensures len { result ≡ length kind.0 }
     ensures small { result ≡ 4 }
 {
@@ -244,9 +247,9 @@ fn body_len(items: &[UserItem], rest: u64) -> u64
     len.saturating_add(rest)
 }
 
-// Appends the header of an atom with a body of `len` bytes.
-fn put_header(out: &mut Vec<u8>, form: SizeForm, kind: FourCc, len: u64) -> Result<(), NoMemory>
-    requires { len ≤ 2 ^ 24 }
+/// Appends the header of an atom with a body of `len` bytes.
+pub fn put_header(out: &mut Vec<u8>, form: SizeForm, kind: FourCc, len: u64) -> Result<(), NoMemory>
+    requires { len < 2 ^ 31 }
     ensures { OnOk result (out.new.items ≡ out.old.items ++ header_bytes (form_of form) kind.0 len) }
 {
     match form {

@@ -54,7 +54,8 @@ fn judge(
 ) -> Result<bool, IndexFault>
     requires indexes_ascend { Ascends 0 indexes.now }
     requires movis_ascend { Ascends 0 movis.now }
-    ensures row { (row : List ℕ) → IsStandard row entry.now → AllByRecursion (EndInside (2 ^ 64)) movis.now → JudgesEntry movis.now indexes.now base k row result }
+    ensures row { (row : List ℕ) → IsStandard row entry.now → AllByRecursion (EndInside (2 ^ 64)) movis.now
+        → JudgesEntry movis.now indexes.now base k row result }
     ensures never { result ≡ Err IndexFault.Depot → ⊥ }
 {
     let offset = u64::from(entry.offset);
@@ -89,7 +90,8 @@ fn read_second<D: Depot>(
     requires small { end < 2 ^ 63 }
     requires there { at + width_by two_fields ≤ end }
     requires window { IsWindow (D.disk depot.old) window.old }
-    ensures second { (b : List ℕ) → Holds (D.disk depot.old) b → IfOk result (λ second. SecondAt b at two_fields second) }
+    ensures second { (b : List ℕ) → Holds (D.disk depot.old) b
+        → IfOk result (λ second. SecondAt b at two_fields second) }
     ensures window { IsWindow (D.disk depot.new) window.new }
     ensures reads { ReadsOnly (D.disk depot.old) (D.disk depot.new) }
     ensures cause { HasCause (D.disk depot.old) (D.disk depot.new) result }
@@ -114,7 +116,8 @@ fn read_entry<D: Depot>(
     requires small { end < 2 ^ 63 }
     requires there { at + width_by two_fields ≤ end }
     requires window { IsWindow (D.disk depot.old) window.old }
-    ensures entry { (b : List ℕ) → Holds (D.disk depot.old) b → IfOk result (λ e. IsStandard (slice b at (width_by two_fields)) e) }
+    ensures entry { (b : List ℕ) → Holds (D.disk depot.old) b
+        → IfOk result (λ e. IsStandard (slice b at (width_by two_fields)) e) }
     ensures window { IsWindow (D.disk depot.new) window.new }
     ensures reads { ReadsOnly (D.disk depot.old) (D.disk depot.new) }
     ensures cause { HasCause (D.disk depot.old) (D.disk depot.new) result }
@@ -178,7 +181,9 @@ fn check_entries<D: Depot>(
     requires inside { Inside table.end (D.disk depot.old) }
     requires small { table.end < 2 ^ 63 }
     requires rows { table.at + width_by table.two_fields * table.used ≡ table.end }
-    ensures entries { (b : List ℕ) → Holds (D.disk depot.old) b → AllByRecursion (EndInside (2 ^ 64)) movis.now → JudgesEntries movis.now indexes.now table.base (rows (width_by table.two_fields) table.used (drop table.at b)) result }
+    ensures entries { (b : List ℕ) → Holds (D.disk depot.old) b → AllByRecursion (EndInside (2 ^ 64)) movis.now
+        → JudgesEntries movis.now indexes.now table.base (rows (width_by table.two_fields) table.used (drop table.at b))
+        result }
     ensures few { IfOk result (λ n. n ≤ table.used) }
     ensures reads { ReadsOnly (D.disk depot.old) (D.disk depot.new) }
     ensures cause { result ≡ Err IndexFault.Depot → Rose (D.disk depot.old).faults (D.disk depot.new).faults }
@@ -219,7 +224,8 @@ pub fn check_standard<D: Depot>(
     requires movis_ascend { Ascends 0 movis.now }
     requires told { (b : List ℕ) → Holds (D.disk depot.old) b → IsChunk b at }
     requires movis { (b : List ℕ) → Holds (D.disk depot.old) b → AllByRecursion (EndInside (length b)) movis.now }
-    ensures entries { (b : List ℕ) → Holds (D.disk depot.old) b → JudgesEntries movis.now indexes.now (index_base (named b at).body) (entries (named b at).body) result }
+    ensures entries { (b : List ℕ) → Holds (D.disk depot.old) b
+        → JudgesEntries movis.now indexes.now (index_base (named b at).body) (entries (named b at).body) result }
     ensures few { IfOk result (λ n. n < 2 ^ 32) }
     ensures reads { ReadsOnly (D.disk depot.old) (D.disk depot.new) }
     ensures cause { result ≡ Err IndexFault.Depot → Rose (D.disk depot.old).faults (D.disk depot.new).faults }

@@ -103,7 +103,8 @@ fn kind_of(first: &[u8; 24], standard: bool) -> Option<IndexKind>
 /// one is looked for. `Wrong` is tested first, and then whether the entries are there.
 pub fn head_in(first: &[u8; 24], len: u64, standard: bool) -> Result<IndexHead, HeadFault>
     requires { 24 ≤ len }
-    ensures head { (body : List ℕ) → first.now ≡ take 24 body → len ≡ length body → ReadsHeadOf (kind_wanted standard) body result }
+    ensures head { (body : List ℕ) → first.now ≡ take 24 body → len ≡ length body
+        → ReadsHeadOf (kind_wanted standard) body result }
     ensures room { IfOk result (λ head. 24 + 4 * head.longs * head.used ≤ len) }
     ensures longs { IfOk result (λ head. head.standard ≡ false → head.longs ≡ 4) }
 {

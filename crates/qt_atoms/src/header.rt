@@ -67,7 +67,8 @@ pub fn head_of(bytes: &[u8; 8]) -> Head
 // How far the atom goes whose header has these numbers, where so many bytes are left.
 pub fn extent_of(parent: Parent, size: u32, wide: u64, room: u64) -> Extent
     requires { 8 ≤ room }
-    ensures header { (w : List ℕ) → length w ≡ room → HasSize w size wide → atom_front (level_of parent) w ≡ header_from (level_of parent) w result }
+    ensures header { (w : List ℕ) → length w ≡ room → HasSize w size wide
+        → atom_front (level_of parent) w ≡ header_from (level_of parent) w result }
     ensures room { FitsRoom room result }
     ensures rest { result ≡ Extent.Rest → parent ≡ Parent.UserData }
 {
@@ -88,7 +89,8 @@ pub fn extent_of(parent: Parent, size: u32, wide: u64, room: u64) -> Extent
 
 // The same where the size is in eight bytes.
 fn long_extent(wide: u64, room: u64) -> Extent
-    ensures header { (s : Level) (w : List ℕ) → length w ≡ room → HasWide w wide → atom_wide s w (nat_lt (length w) 16) ≡ header_from s w result }
+    ensures header { (s : Level) (w : List ℕ) → length w ≡ room → HasWide w wide
+        → atom_wide s w (nat_lt (length w) 16) ≡ header_from s w result }
     ensures room { FitsRoom room result }
     ensures there { result ≢ Extent.Rest }
 {
@@ -107,7 +109,8 @@ fn long_extent(wide: u64, room: u64) -> Extent
 // The same where the size is 0.
 fn open_extent(parent: Parent, room: u64) -> Extent
     requires { 8 ≤ room }
-    ensures header { (w : List ℕ) → length w ≡ room → atom_zero (level_of parent) w ≡ header_from (level_of parent) w result }
+    ensures header { (w : List ℕ) → length w ≡ room
+        → atom_zero (level_of parent) w ≡ header_from (level_of parent) w result }
     ensures room { FitsRoom room result }
     ensures rest { result ≡ Extent.Rest → parent ≡ Parent.UserData }
 {

@@ -70,8 +70,10 @@ impl AtomWalker {
         ensures end { self.new.end ≡ self.old.end }
         ensures parent { self.new.parent ≡ self.old.parent }
         ensures stays { OnErr result (self.new.at ≡ self.old.at) }
-        ensures row { (b : List ℕ) → Holds (D.disk depot.old) b → IfOk result (λ found. Stepped (level_of self.old.parent) b self.old.at self.old.end found) }
-        ensures stuck { (b : List ℕ) → Holds (D.disk depot.old) b → IfErr result (λ fault. StuckThere (level_of self.old.parent) b self.old.at self.old.end fault) }
+        ensures row { (b : List ℕ) → Holds (D.disk depot.old) b
+            → IfOk result (λ found. Stepped (level_of self.old.parent) b self.old.at self.old.end found) }
+        ensures stuck { (b : List ℕ) → Holds (D.disk depot.old) b
+            → IfErr result (λ fault. StuckThere (level_of self.old.parent) b self.old.at self.old.end fault) }
         ensures reads { ReadsOnly (D.disk depot.old) (D.disk depot.new) }
         ensures cause { result ≡ Err AtomFault.Depot → Rose (D.disk depot.old).faults (D.disk depot.new).faults }
     {
@@ -101,8 +103,10 @@ impl AtomWalker {
         ensures end { self.new.end ≡ self.old.end }
         ensures parent { self.new.parent ≡ self.old.parent }
         ensures stays { OnErr result (self.new.at ≡ self.old.at) }
-        ensures row { IfOk result (λ found. Stepped (level_of self.old.parent) bytes.now self.old.at self.old.end found) }
-        ensures stuck { IfErr result (λ fault. Stuck (level_of self.old.parent) bytes.now self.old.at self.old.end fault) }
+        ensures row { IfOk result
+            (λ found. Stepped (level_of self.old.parent) bytes.now self.old.at self.old.end found) }
+        ensures stuck { IfErr result
+            (λ fault. Stuck (level_of self.old.parent) bytes.now self.old.at self.old.end fault) }
     {
         let at = self.at as usize;
         let Some(head) = head_in(bytes, at) else {
@@ -117,7 +121,8 @@ impl AtomWalker {
         ensures few { self.now.end < self.now.at + 8 → result ≡ Ok None }
         ensures none { IfOk result (λ found. IsNone found → self.now.end < self.now.at + 8) }
         ensures letters { IfOk result (λ found. IfSome found (λ head. length head.kind.0 ≡ 4)) }
-        ensures front { (b : List ℕ) → Holds (D.disk depot.old) b → IfOk result (λ found. BeginsWith (window b self.now.at self.now.end) found) }
+        ensures front { (b : List ℕ) → Holds (D.disk depot.old) b
+            → IfOk result (λ found. BeginsWith (window b self.now.at self.now.end) found) }
         ensures reads { ReadsOnly (D.disk depot.old) (D.disk depot.new) }
         ensures cause { HasCause (D.disk depot.old) (D.disk depot.new) result }
     {
@@ -132,7 +137,8 @@ impl AtomWalker {
     // The number in the eight bytes behind the type, where the size before it says that it is there.
     fn wide<D: Depot>(&self, depot: &mut D, size: u32) -> Result<u64, DepotFault>
         requires inside { Inside self.now.end (D.disk depot.old) }
-        ensures wide { (b : List ℕ) → Holds (D.disk depot.old) b → IfOk result (λ wide. size ≡ 1 → HasWide (window b self.now.at self.now.end) wide) }
+        ensures wide { (b : List ℕ) → Holds (D.disk depot.old) b
+            → IfOk result (λ wide. size ≡ 1 → HasWide (window b self.now.at self.now.end) wide) }
         ensures reads { ReadsOnly (D.disk depot.old) (D.disk depot.new) }
         ensures cause { HasCause (D.disk depot.old) (D.disk depot.new) result }
     {
@@ -157,8 +163,12 @@ impl AtomWalker {
         ensures end { self.new.end ≡ self.old.end }
         ensures parent { self.new.parent ≡ self.old.parent }
         ensures stays { OnErr result (self.new.at ≡ self.old.at) }
-        ensures row { (b : List ℕ) → self.old.end ≤ length b → Begins (window b self.old.at self.old.end) head → HasSize (window b self.old.at self.old.end) head.size wide → IfOk result (λ found. Stepped (level_of self.old.parent) b self.old.at self.old.end found) }
-        ensures stuck { (b : List ℕ) → self.old.end ≤ length b → Begins (window b self.old.at self.old.end) head → HasSize (window b self.old.at self.old.end) head.size wide → IfErr result (λ fault. Stuck (level_of self.old.parent) b self.old.at self.old.end fault) }
+        ensures row { (b : List ℕ) → self.old.end ≤ length b → Begins (window b self.old.at self.old.end) head
+            → HasSize (window b self.old.at self.old.end) head.size wide
+            → IfOk result (λ found. Stepped (level_of self.old.parent) b self.old.at self.old.end found) }
+        ensures stuck { (b : List ℕ) → self.old.end ≤ length b → Begins (window b self.old.at self.old.end) head
+            → HasSize (window b self.old.at self.old.end) head.size wide
+            → IfErr result (λ fault. Stuck (level_of self.old.parent) b self.old.at self.old.end fault) }
     {
         let room = self.end - self.at;
         match extent_of(self.parent, head.size, wide, room) {

@@ -21,7 +21,8 @@ pub trait FromAtom {
 /// Reads each of the atoms that fill the bytes. None where they don't fill them, or one isn't read.
 pub fn read_all<T: FromAtom + Drop>(alloc: Global, bytes: &[u8]) -> Result<Option<Vec<T>>, NoMemory>
     requires { length bytes.now ≤ 2 ^ 24 }
-    ensures { IfOk result (λ found. MatchOption found (each T.reads bytes.now ≡ None) (λ all. each T.reads bytes.now ≡ Some all.items)) }
+    ensures { IfOk result
+        (λ found. MatchOption found (each T.reads bytes.now ≡ None) (λ all. each T.reads bytes.now ≡ Some all.items)) }
 {
     let mut all = Vec::new(alloc);
     let mut at = 0;

@@ -56,7 +56,8 @@ fn put_keys(
 // The body of `keys`: version and flags, the count, and the entries.
 fn keys_body(alloc: Global, head: u32, entries: &[KeyEntry]) -> Result<Vec<u8>, NoMemory>
     requires { length (spell_all (map entry_atom entries.now)) ≤ 2 ^ 24 }
-    ensures { IfOk result (λ body. body.items ≡ to_be_bytes w32 head ++ (to_be_bytes w32 (length entries.now) ++ spell_all (map entry_atom entries.now))) }
+    ensures { IfOk result (λ body. body.items
+        ≡ to_be_bytes w32 head ++ (to_be_bytes w32 (length entries.now) ++ spell_all (map entry_atom entries.now))) }
 {
     let mut body = Vec::new(alloc);
     body.extend_from_slice(&head.to_be_bytes())?;

@@ -17,7 +17,8 @@ use std::alloc::Global;
 
 /// The texts that fill a body, in their order. None exactly where the body isn't one or more texts that fill it.
 pub fn read_user(alloc: Global, body: &[u8]) -> Result<Option<Vec<Value>>, NoMemory>
-    ensures { IfOk result (λ found. MatchOption found (texts body.now ≡ []) (λ values. AreTexts body.now values.items)) }
+    ensures { IfOk result (λ found. MatchOption found (texts body.now
+        ≡ []) (λ values. AreTexts body.now values.items)) }
 {
     let mut texts = Vec::new(alloc);
     let mut at = 0;
@@ -57,7 +58,8 @@ fn text_len(body: &[u8], at: usize) -> Option<usize>
 // The text at a place, of so many bytes.
 fn read_text(alloc: Global, body: &[u8], at: usize, len: usize) -> Result<Value, NoMemory>
     requires { at + 4 + len ≤ length body.now }
-    ensures { IfOk result (λ text. text ≡ record { lang = text_language (drop at body.now); raw = take len (drop 4 (drop at body.now)) }) }
+    ensures { IfOk result (λ text. text
+        ≡ record { lang = text_language (drop at body.now); raw = take len (drop 4 (drop at body.now)) }) }
 {
     let lang = number_at(body, at + 2);
     let raw = Bytes::new(alloc, &body[at + 4..at + 4 + len])?;

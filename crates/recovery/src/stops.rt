@@ -15,6 +15,7 @@ ghost use Rattle.part_tree.specs.Patches.{all_bytes};
 pub fn stopped_recoveries()
     ensures alike { (e : Image) (is : List Image) → StoppedAt e is → SettlesAlike e (last_of e is) }
     ensures once { (i : Image) (f g : Option (List ℕ)) → Settles f i → Settles g i → f ≡ g }
-    ensures bytes { (m j : List ℕ) (old new : ℕ) (ps : List Patch) → Journal j old new ps → min old new ≤ length m → bytes_to_redo (record { main = Some m; journal = Some j }) ≡ all_bytes ps }
+    ensures bytes { (m j : List ℕ) (old new : ℕ) (ps : List Patch) → Journal j old new ps → min old new ≤ length m
+        → bytes_to_redo (record { main = Some m; journal = Some j }) ≡ all_bytes ps }
     ensures plain { (m : Option (List ℕ)) → bytes_to_redo (record { main = m; journal = None }) ≡ 0 }
 {}

@@ -72,7 +72,8 @@ impl Walker {
         ensures none { IfOk result (λ found. IsNone found ↔ (self.old.end < self.old.at + 8)) }
         ensures place { IfOk result (λ found. IfSome found (λ head. head.at ≡ self.old.at)) }
         ensures letters { IfOk result (λ found. IfSome found (λ head. length head.id.0 ≡ 4)) }
-        ensures front { IfOk result (λ found. (b : List ℕ) → Holds (D.disk depot.old) b → FrontIs (window b self.old.at self.old.end) found) }
+        ensures front { IfOk result (λ found. (b : List ℕ) → Holds (D.disk depot.old) b
+            → FrontIs (window b self.old.at self.old.end) found) }
         ensures stays { (self.new.at ≡ self.old.at) × (self.new.end ≡ self.old.end) }
         ensures window { IsWindow (D.disk depot.new) self.new.window }
         ensures reads { ReadsOnly (D.disk depot.old) (D.disk depot.new) }
@@ -101,7 +102,8 @@ impl Walker {
         ensures window { self.new.window ≡ self.old.window }
 
         // One step of the chunks of each file in which the header stands here.
-        ensures chunk { IfOk result (λ chunk. (b : List ℕ) → self.old.end ≤ length b → Passed b self.old.at self.old.end chunk) }
+        ensures chunk { IfOk result (λ chunk. (b : List ℕ) → self.old.end ≤ length b
+            → Passed b self.old.at self.old.end chunk) }
         ensures cut { OnErr result ((b : List ℕ) → self.old.end ≤ length b → Cut b self.old.at self.old.end size) }
     {
         let room = self.end - self.at - 8;
@@ -153,8 +155,10 @@ impl Walker {
         ensures moved { IfOk result (λ found. self.new.at ≡ place_after self.old.at found) }
         ensures end { self.new.end ≡ self.old.end }
         ensures stays { OnErr result (self.new.at ≡ self.old.at) }
-        ensures row { (b : List ℕ) → Holds (D.disk depot.old) b → IfOk result (λ found. Stepped b self.old.at self.old.end found) }
-        ensures stuck { (b : List ℕ) → Holds (D.disk depot.old) b → IfErr result (λ fault. Stuck b self.old.at self.old.end fault) }
+        ensures row { (b : List ℕ) → Holds (D.disk depot.old) b
+            → IfOk result (λ found. Stepped b self.old.at self.old.end found) }
+        ensures stuck { (b : List ℕ) → Holds (D.disk depot.old) b
+            → IfErr result (λ fault. Stuck b self.old.at self.old.end fault) }
         ensures window { IsWindow (D.disk depot.new) self.new.window }
         ensures reads { ReadsOnly (D.disk depot.old) (D.disk depot.new) }
         ensures cause { result ≡ Err StepFault.Depot → Rose (D.disk depot.old).faults (D.disk depot.new).faults }
@@ -178,7 +182,8 @@ impl Walker {
         ensures end { self.new.end ≡ self.old.end }
         ensures stays { OnErr result (self.new.at ≡ self.old.at) }
         ensures row { IfOk result (λ found. Stepped bytes.now self.old.at self.old.end found) }
-        ensures stuck { IfErr result (λ fault. Stuck bytes.now self.old.at self.old.end (StepFault.Truncated fault.at)) }
+        ensures stuck { IfErr result
+            (λ fault. Stuck bytes.now self.old.at self.old.end (StepFault.Truncated fault.at)) }
     {
         let Some(head) = head_in(bytes, self.at as usize) else {
             return Ok(None);

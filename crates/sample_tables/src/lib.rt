@@ -154,19 +154,24 @@ fn number_at(body: &[u8], at: usize) -> u32
 
 /// A table that is long enough names as many places, runs or sizes as it has rows.
 pub fn rows_are_counted()
-    ensures places { (c : Chunk) (n : ℕ) → IsTrue (is c (codes "stco") || is c (codes "co64")) → rows_told c ≡ Some n → length (places_in c) ≡ n }
-    ensures runs { (body : List ℕ) (n : ℕ) → rows_told (atom (codes "stsc") body) ≡ Some n → length (runs_in (atom (codes "stsc") body)) ≡ n }
-    ensures sizes { (body : List ℕ) (n : ℕ) → rows_told (atom (codes "stsz") body) ≡ Some n → length (sizes_in (atom (codes "stsz") body)) ≡ n }
+    ensures places { (c : Chunk) (n : ℕ) → IsTrue (is c (codes "stco") || is c (codes "co64")) → rows_told c ≡ Some n
+        → length (places_in c) ≡ n }
+    ensures runs { (body : List ℕ) (n : ℕ) → rows_told (atom (codes "stsc") body) ≡ Some n
+        → length (runs_in (atom (codes "stsc") body)) ≡ n }
+    ensures sizes { (body : List ℕ) (n : ℕ) → rows_told (atom (codes "stsz") body) ≡ Some n
+        → length (sizes_in (atom (codes "stsz") body)) ≡ n }
 {}
 
 /// Tables that are long enough, with their places changed so that each fits its width, hold the changed places.
 pub fn places_are_changed()
-    ensures { (f : ℕ → ℕ) (ts : List Chunk) → AllByRecursion (λ c. is_short_table c ≡ false) ts → AllByRecursion (FitsRows f) ts → places (map (moved_table f) ts) ≡ map f (places ts) }
+    ensures { (f : ℕ → ℕ) (ts : List Chunk) → AllByRecursion (λ c. is_short_table c ≡ false) ts
+        → AllByRecursion (FitsRows f) ts → places (map (moved_table f) ts) ≡ map f (places ts) }
 {}
 
 /// Each sample that is named has as many bytes as the table of sizes tells.
 pub fn samples_are_whole()
-    ensures { (n : ℕ) (sizes tail : List ℕ) → map (λ (x : List ℕ). length x) (samples_in n sizes tail) ≡ take (length (samples_in n sizes tail)) sizes }
+    ensures { (n : ℕ) (sizes tail : List ℕ)
+        → map (λ (x : List ℕ). length x) (samples_in n sizes tail) ≡ take (length (samples_in n sizes tail)) sizes }
 {}
 
 #[cfg(test)]

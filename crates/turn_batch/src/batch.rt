@@ -65,7 +65,9 @@ impl Batch {
         requires depots { length depots.old ≡ length self.old }
         requires inside { i < length self.old }
         requires ready { (m : Member) (d : D) → IsReady old (get_or self.old i m) (D.disk (get_or depots.old i d)) }
-        ensures turned { (m : Member) (d : D) → TurnedAt D.disk old (get_or self.old i m) (get_or self.new i m) (get_or depots.old i d) (get_or depots.new i d) result }
+        ensures turned { (m : Member) (d : D)
+            → TurnedAt D.disk old (get_or self.old i m) (get_or self.new i m) (get_or depots.old i d)
+            (get_or depots.new i d) result }
         ensures members { (m : Member) → self.new ≡ set self.old i (get_or self.new i m) }
         ensures others { (d : D) → depots.new ≡ set depots.old i (get_or depots.new i d) }
     {

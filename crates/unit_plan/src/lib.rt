@@ -38,17 +38,22 @@ pub use unit::{FilledUnit, OpenUnit};
 /// What an edit of a row of cells comes to is told by their shapes: the spans that are replaced, the patches of these, whether
 /// the units fit their slots, and the parts of the new chunks.
 pub fn shapes_tell()
-    ensures { (g : Chunk → ℕ) (ends : Bool) (at : ℕ) (xs : List Cell) → IsPartCount g → row ends at none (map (shape_of g) xs) ≡ cells_outcome g ends at xs }
+    ensures { (g : Chunk → ℕ) (ends : Bool) (at : ℕ) (xs : List Cell) → IsPartCount g
+        → row ends at none (map (shape_of g) xs) ≡ cells_outcome g ends at xs }
 {}
 
 /// What is spliced into a form with its size is spliced with one span more: the size in the form's own field, or in a table.
 pub fn size_is_a_cut()
-    ensures own { (n : ℕ) (b : List ℕ) (cs : List Cut) → Ascend 8 cs (length b) → splice b (size_cut false n ∷ cs) ≡ sized false n (splice b cs) }
-    ensures wide { (n : ℕ) (b : List ℕ) (cs : List Cut) → Ascend 28 cs (length b) → splice b (size_cut true n ∷ cs) ≡ sized true n (splice b cs) }
+    ensures own { (n : ℕ) (b : List ℕ) (cs : List Cut) → Ascend 8 cs (length b)
+        → splice b (size_cut false n ∷ cs) ≡ sized false n (splice b cs) }
+    ensures wide { (n : ℕ) (b : List ℕ) (cs : List Cut) → Ascend 28 cs (length b)
+        → splice b (size_cut true n ∷ cs) ≡ sized true n (splice b cs) }
 {}
 
 /// Spans that ascend by their numbers ascend in every file, and tell its new length.
 pub fn spans_tell()
-    ensures ascend { (from end : ℕ) (ks : List CutAt) (b : List ℕ) → SpansAscend from ks end → Ascend from (map (cut_in b) ks) end }
-    ensures len { (b : List ℕ) (len : ℕ) (ks : List CutAt) → length b ≡ len → SpansAscend 0 ks len → length (splice b (map (cut_in b) ks)) ≡ spliced_len len ks }
+    ensures ascend { (from end : ℕ) (ks : List CutAt) (b : List ℕ) → SpansAscend from ks end
+        → Ascend from (map (cut_in b) ks) end }
+    ensures len { (b : List ℕ) (len : ℕ) (ks : List CutAt) → length b ≡ len → SpansAscend 0 ks len
+        → length (splice b (map (cut_in b) ks)) ≡ spliced_len len ks }
 {}

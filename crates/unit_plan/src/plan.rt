@@ -21,7 +21,8 @@ fn rewrite(alloc: Global, cuts: &[CutAt], len: u64, new_len: u64) -> Result<Plan
     requires new_small { new_len < 2 ^ 63 }
     ensures can { IfOk result (λ p. CanRun p) }
     ensures belongs { IfOk result (λ p. (b : List ℕ) → length b ≡ len → Belongs p b) }
-    ensures applied { IfOk result (λ p. (b : List ℕ) → length b ≡ len → applied p b ≡ splice b (map (cut_in b) cuts.now)) }
+    ensures applied { IfOk result (λ p. (b : List ℕ) → length b ≡ len
+        → applied p b ≡ splice b (map (cut_in b) cuts.now)) }
     ensures rewrites { IfOk result (λ p. IsRewrite new_len p) }
 {
     let segments = segments(alloc, cuts, len)?;
@@ -48,7 +49,8 @@ pub fn plan_of(
     requires new_small { new_len < 2 ^ 63 }
     ensures can { IfOk result (λ p. CanRun p) }
     ensures belongs { IfOk result (λ p. (b : List ℕ) → length b ≡ len → Belongs p b) }
-    ensures applied { IfOk result (λ p. (b : List ℕ) → length b ≡ len → applied p b ≡ splice b (map (cut_in b) cuts.now)) }
+    ensures applied { IfOk result (λ p. (b : List ℕ) → length b ≡ len
+        → applied p b ≡ splice b (map (cut_in b) cuts.now)) }
     ensures form { IfOk result (λ p. IsPlanOf fit len new_len (flat_map patch_of cuts.now) p) }
 {
     if !fit {

@@ -23,7 +23,8 @@ pub struct UnitCuts {
 impl UnitCuts {
     // So many parts more. No memory holds as many as 64 bits don't count.
     fn count(&mut self, parts: u64) -> Result<(), NoMemory>
-        ensures outcome { OnOk result ((b : List ℕ) → outcome_in b self.new ≡ both (outcome_in b self.old) (counts parts)) }
+        ensures outcome { OnOk result ((b : List ℕ)
+            → outcome_in b self.new ≡ both (outcome_in b self.old) (counts parts)) }
         ensures cuts { self.new.cuts ≡ self.old.cuts }
         ensures fits { self.new.fits ≡ self.old.fits }
     {
@@ -38,7 +39,8 @@ impl UnitCuts {
 
     // One unit more.
     fn add(&mut self, unit: FilledUnit) -> Result<(), NoMemory>
-        ensures outcome { OnOk result ((b : List ℕ) → outcome_in b self.new ≡ both (outcome_in b self.old) (filled_in b unit)) }
+        ensures outcome { OnOk result ((b : List ℕ)
+            → outcome_in b self.new ≡ both (outcome_in b self.old) (filled_in b unit)) }
         ensures cuts { OnOk result (self.new.cuts.items ≡ self.old.cuts.items ++ unit.cut ∷ []) }
         ensures fits { OnOk result (self.new.fits ≡ (self.old.fits && unit.fits)) }
     {
@@ -55,10 +57,14 @@ impl UnitCuts {
     fn close(&mut self, unit: Option<OpenUnit>, end: u64, ends: bool) -> Result<(), NoMemory>
         requires order { BeginsBefore unit end }
         requires small { end < 2 ^ 63 }
-        ensures outcome { OnOk result ((b : List ℕ) (file last : Bool) → end ≤ length b → (file && last) ≡ ends → outcome_in b self.new ≡ both (outcome_in b self.old) (closed file last (open_in b end unit))) }
-        ensures so_far { OnOk result ((from : ℕ) → IsSoFar from self.old (open_start unit end) → ends ≡ false → IsSoFar from self.new end) }
-        ensures ascend { OnOk result ((from : ℕ) → IsSoFar from self.old (open_start unit end) → SpansAscend from self.new.cuts.items end) }
-        ensures fits { OnOk result ((from len : ℕ) → IsSoFar from self.old (open_start unit end) → (ends ≡ true → end ≡ len) → self.new.fits ≡ true → FitsIn len self.new.cuts.items) }
+        ensures outcome { OnOk result ((b : List ℕ) (file last : Bool) → end ≤ length b → (file && last) ≡ ends
+            → outcome_in b self.new ≡ both (outcome_in b self.old) (closed file last (open_in b end unit))) }
+        ensures so_far { OnOk result ((from : ℕ) → IsSoFar from self.old (open_start unit end) → ends ≡ false
+            → IsSoFar from self.new end) }
+        ensures ascend { OnOk result ((from : ℕ) → IsSoFar from self.old (open_start unit end)
+            → SpansAscend from self.new.cuts.items end) }
+        ensures fits { OnOk result ((from len : ℕ) → IsSoFar from self.old (open_start unit end)
+            → (ends ≡ true → end ≡ len) → self.new.fits ≡ true → FitsIn len self.new.cuts.items) }
     {
         match unit {
             None => Ok(()),
@@ -85,7 +91,8 @@ impl UnitCuts {
         ensures row { IfOk result (λ o. (b : List ℕ) (ends : Bool) (xs : List Shape) → place.now.next ≤ length b → not (no_more xs) ≡ more
             → both (outcome_in b self.old) (row ends place.now.at (open_in b place.now.at unit) (shape_in b place.now ∷ xs))
             ≡ both (outcome_in b self.new) (row ends place.now.next (open_in b place.now.next o) xs)) }
-        ensures so_far { IfOk result (λ o. (from : ℕ) → IsSoFar from self.old (open_start unit place.now.at) → IsSoFar from self.new (open_start o place.now.next)) }
+        ensures so_far { IfOk result (λ o. (from : ℕ) → IsSoFar from self.old (open_start unit place.now.at)
+            → IsSoFar from self.new (open_start o place.now.next)) }
     {
         match &place.what {
             What::Stays => {
@@ -122,7 +129,8 @@ pub fn unit_cuts(
 ) -> Result<UnitCuts, NoMemory>
     requires follow { Follow from places.now end }
     requires small { end < 2 ^ 63 }
-    ensures outcome { IfOk result (λ u. (b : List ℕ) → end ≤ length b → outcome_in b u ≡ row ends from none (map (shape_in b) places.now)) }
+    ensures outcome { IfOk result (λ u. (b : List ℕ) → end ≤ length b
+        → outcome_in b u ≡ row ends from none (map (shape_in b) places.now)) }
     ensures ascend { IfOk result (λ u. SpansAscend from u.cuts.items end) }
     ensures fits { IfOk result (λ u. (len : ℕ) → (ends ≡ true → end ≡ len) → u.fits ≡ true → FitsIn len u.cuts.items) }
 {

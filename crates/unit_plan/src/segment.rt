@@ -13,9 +13,12 @@ use std::alloc::Global;
 
 // So many bytes of the old file more.
 fn push_copy(segments: &mut Vec<Segment>, at: u64, len: u64) -> Result<(), NoMemory>
-    ensures bytes { OnOk result ((ms : List Move) (b : List ℕ) → flat_map (segment_bytes ms b) segments.new.items ≡ flat_map (segment_bytes ms b) segments.old.items ++ take len (drop at b)) }
+    ensures bytes { OnOk result ((ms : List Move) (b : List ℕ)
+        → flat_map (segment_bytes ms b) segments.new.items
+        ≡ flat_map (segment_bytes ms b) segments.old.items ++ take len (drop at b)) }
     ensures total { OnOk result (total_len segments.new.items ≡ total_len segments.old.items + len) }
-    ensures inside { OnOk result ((b : List ℕ) → at + len ≤ length b → AllInside b segments.old.items → AllInside b segments.new.items) }
+    ensures inside { OnOk result ((b : List ℕ) → at + len ≤ length b → AllInside b segments.old.items
+        → AllInside b segments.new.items) }
     ensures plain { OnOk result (AllPlain segments.old.items → AllPlain segments.new.items) }
 {
     if len == 0 {
@@ -30,7 +33,9 @@ fn push_copy(segments: &mut Vec<Segment>, at: u64, len: u64) -> Result<(), NoMem
 
 // These bytes more.
 fn push_literal(segments: &mut Vec<Segment>, alloc: Global, bytes: &[u8]) -> Result<(), NoMemory>
-    ensures bytes { OnOk result ((ms : List Move) (b : List ℕ) → flat_map (segment_bytes ms b) segments.new.items ≡ flat_map (segment_bytes ms b) segments.old.items ++ bytes.now) }
+    ensures bytes { OnOk result ((ms : List Move) (b : List ℕ)
+        → flat_map (segment_bytes ms b) segments.new.items
+        ≡ flat_map (segment_bytes ms b) segments.old.items ++ bytes.now) }
     ensures total { OnOk result (total_len segments.new.items ≡ total_len segments.old.items + length bytes.now) }
     ensures inside { OnOk result ((b : List ℕ) → AllInside b segments.old.items → AllInside b segments.new.items) }
     ensures plain { OnOk result (AllPlain segments.old.items → AllPlain segments.new.items) }
@@ -56,9 +61,14 @@ fn push_cut(
     requires before { at ≤ cut.now.span.at }
     requires keep { cut.now.keep ≤ cut.now.span.len }
     requires small { cut.now.span.at + cut.now.span.len < 2 ^ 64 }
-    ensures bytes { OnOk result ((ms : List Move) (b : List ℕ) → flat_map (segment_bytes ms b) segments.new.items ≡ flat_map (segment_bytes ms b) segments.old.items ++ (take (cut.now.span.at - at) (drop at b) ++ (cut_in b cut.now).bytes)) }
-    ensures total { OnOk result (total_len segments.new.items ≡ total_len segments.old.items + ((cut.now.span.at - at) + (length cut.now.bytes + cut.now.keep))) }
-    ensures inside { OnOk result ((b : List ℕ) → cut.now.span.at + cut.now.span.len ≤ length b → AllInside b segments.old.items → AllInside b segments.new.items) }
+    ensures bytes { OnOk result ((ms : List Move) (b : List ℕ)
+        → flat_map (segment_bytes ms b) segments.new.items
+        ≡ flat_map (segment_bytes ms b) segments.old.items
+        ++ (take (cut.now.span.at - at) (drop at b) ++ (cut_in b cut.now).bytes)) }
+    ensures total { OnOk result (total_len segments.new.items
+        ≡ total_len segments.old.items + ((cut.now.span.at - at) + (length cut.now.bytes + cut.now.keep))) }
+    ensures inside { OnOk result ((b : List ℕ) → cut.now.span.at + cut.now.span.len ≤ length b
+        → AllInside b segments.old.items → AllInside b segments.new.items) }
     ensures plain { OnOk result (AllPlain segments.old.items → AllPlain segments.new.items) }
 {
     push_copy(segments, at, cut.span.at - at)?;
@@ -70,7 +80,8 @@ fn push_cut(
 /// The segments of a file of `len` bytes of which spans are replaced; none is empty.
 pub fn segments(alloc: Global, cuts: &[CutAt], len: u64) -> Result<Segments, NoMemory>
     requires { SpansAscend 0 cuts.now len }
-    ensures bytes { IfOk result (λ s. (ms : List Move) (b : List ℕ) → length b ≡ len → flat_map (segment_bytes ms b) s ≡ splice b (map (cut_in b) cuts.now)) }
+    ensures bytes { IfOk result (λ s. (ms : List Move) (b : List ℕ) → length b ≡ len
+        → flat_map (segment_bytes ms b) s ≡ splice b (map (cut_in b) cuts.now)) }
     ensures total { IfOk result (λ s. total_len s ≡ spliced_len len cuts.now) }
     ensures inside { IfOk result (λ s. (b : List ℕ) → len ≤ length b → AllInside b s) }
     ensures plain { IfOk result AllPlain }

@@ -50,7 +50,8 @@ fn fits_slot(ends: bool, slot: u64, spelled: u64) -> bool
 // The padding of a unit: none, or so many of its slot's last bytes behind a header of eight.
 fn padding(ends: bool, slot: u64, spelled: u64) -> Option<u64>
     requires small { slot < 2 ^ 63 }
-    ensures fill { (file last : Bool) (bytes : List ℕ) → (file && last) ≡ ends → length bytes ≡ slot → riff_fill file last bytes spelled ≡ padding_in bytes result }
+    ensures fill { (file last : Bool) (bytes : List ℕ) → (file && last) ≡ ends → length bytes ≡ slot
+        → riff_fill file last bytes spelled ≡ padding_in bytes result }
     ensures even { IfSome result (λ n. n % 2 ≡ 0) }
     ensures fits { IfSome result (λ n. n < 2 ^ 32) }
     ensures inside { IfSome result (λ n. n ≤ slot) }
@@ -81,8 +82,10 @@ fn padding(ends: bool, slot: u64, spelled: u64) -> Option<u64>
 pub fn fill_unit(unit: OpenUnit, end: u64, ends: bool) -> Result<FilledUnit, NoMemory>
     requires order { unit.start ≤ end }
     requires small { end < 2 ^ 63 }
-    ensures outcome { IfOk result (λ f. (b : List ℕ) (file last : Bool) → end ≤ length b → (file && last) ≡ ends → filled_in b f ≡ closed file last (unit_at unit.start (window b unit.start end) unit.spelled.items)) }
-    ensures place { IfOk result (λ f. (f.cut.span.at ≡ unit.start) × (f.cut.span.at + f.cut.span.len ≡ end) × (f.cut.keep ≤ f.cut.span.len)) }
+    ensures outcome { IfOk result (λ f. (b : List ℕ) (file last : Bool) → end ≤ length b → (file && last) ≡ ends
+        → filled_in b f ≡ closed file last (unit_at unit.start (window b unit.start end) unit.spelled.items)) }
+    ensures place { IfOk result (λ f. (f.cut.span.at ≡ unit.start) × (f.cut.span.at + f.cut.span.len ≡ end)
+        × (f.cut.keep ≤ f.cut.span.len)) }
     ensures exact { IfOk result (λ f. ends ≡ false → f.fits ≡ true → IsExact f.cut) }
     ensures ending { IfOk result (λ f. ends ≡ true → f.cut.keep ≡ 0) }
 {
@@ -146,7 +149,8 @@ pub fn change_unit(
     now: &Bytes,
 ) -> Result<OpenUnit, NoMemory>
     requires order { BeginsBefore unit at }
-    ensures unit { IfOk result (λ u. (b : List ℕ) (next : ℕ) → at ≤ next → next ≤ length b → open_in b next (Some u) ≡ open_changed at (open_in b at unit) (window b at next) now.now) }
+    ensures unit { IfOk result (λ u. (b : List ℕ) (next : ℕ) → at ≤ next → next ≤ length b
+        → open_in b next (Some u) ≡ open_changed at (open_in b at unit) (window b at next) now.now) }
     ensures start { IfOk result (λ u. u.start ≡ open_start unit at) }
 {
     match unit {

@@ -1,11 +1,11 @@
 -- The values of a map, one chunk more.
-use Rattle.std.proofs.Common.{◌≡◌, ◌∙◌, ℕ, ◌+◌, ◌<◌, ◌≤◌, Bool, true, false, eqb, ltb, List, [], ◌∷◌, ◌++◌, length, map, drop, get_or, refl, sym, ap, subst, arith, append_assoc}
+use Rattle.std.proofs.Common.{◌≡◌, ◌∙◌, ℕ, ◌+◌, ◌<◌, ◌≤◌, Bool, true, false, eqb, ltb, List, [], ◌∷◌, ◌++◌, length, map, refl, sym, ap, subst, arith}
 use Rattle.std.specs.Prelude.{if◌then◌else◌, ◌&&◌, ◌==◌, nat_lt}
 use Rattle.std.specs.Str.{bytes_eq}
+use Rattle.std.specs.List.{flat_map}
 use Rattle.std.proofs.lemmas.Bool.{lt-ltb, le-ltb, eqb-true, eqb-false, cases_lt}
-use Rattle.std.proofs.lemmas.List.{append-nil, map-append, at_drop_more, at_drop_all}
+use Rattle.std.proofs.lemmas.List.{append-nil}
 use Rattle.container_model.specs.Chunk.{Chunk}
-use Rattle.container_model.specs.Items.{values_in}
 use Rattle.container_model.specs.Items as items
 use Rattle.carrier_model.specs.Info.{own_size, one_of, info_items, list_run}
 use Rattle.part_tree.specs.declared.names.FourCc.{FourCc}
@@ -22,32 +22,13 @@ use Rattle.field_model.specs.Fields.{FieldMap, plain}
 use Rattle.field_model.proofs.Fills.{range_fills}
 use Rattle.info_list.specs.declared.InfoItem.{InfoItem}
 use Rattle.info_list.specs.Info.{item_of}
+use Rattle.info_list.proofs.Grown.{added, grown_as, grown_on, held_values, not_grown, one}
 use Rattle.wave_model.specs.Fields.{is_bext, is_info, is_whole, fields_of}
 use Rattle.wave_model.proofs.Values.{eq_sym}
 use Rattle.wave_file.specs.Lawful.{HasNoBext, HasBext}
 use Rattle.wave_file.specs.Map.{is_field}
-use Rattle.wave_file.specs.Reads.{Grows, KeepsKeys, ranges_below, item_value, item_values, items_held}
-
--- ---- one value more
-
-abbrev pub one : FieldName → Value → FieldMap
-one name v n = if same_name name n then v ∷ [] else []
-
-pub added : (old new : List Entry) (name : FieldName) (v : Value) → Adds old new name v → Grows old new (one name v)
-added old new name v a n = go (same_name name n) refl
-  where
-    go : (t : Bool) → same_name name n ≡ t → values new n ≡ values old n ++ (if t then v ∷ [] else [])
-    go true e = let P : FieldName → Type 0 = λ m. values new m ≡ values old m ++ v ∷ [] in subst P (same_is_equal name n e) a.last
-    go false e = a.others n e ∙ sym (append-nil (values old n))
-
-pub grown_on : (a b c : List Entry) (f g h : FieldMap) → Grows a b f → Grows b c g → ((n : FieldName) → f n ++ g n ≡ h n) → Grows a c h
-grown_on a b c f g h x y e n = y n ∙ ap (λ (vs : List Value). vs ++ g n) (x n) ∙ append_assoc (values a n) (f n) (g n) ∙ ap (λ (vs : List Value). values a n ++ vs) (e n)
-
-pub grown_as : (a b : List Entry) (f g : FieldMap) → Grows a b f → ((n : FieldName) → f n ≡ g n) → Grows a b g
-grown_as a b f g x e n = x n ∙ ap (λ (vs : List Value). values a n ++ vs) (e n)
-
-pub not_grown : (a : List Entry) (f : FieldMap) → ((n : FieldName) → f n ≡ []) → Grows a a f
-not_grown a f e n = sym (append-nil (values a n)) ∙ ap (λ (vs : List Value). values a n ++ vs) (sym (e n))
+use Rattle.info_list.specs.Fields.{Grows, item_value, items_held}
+use Rattle.wave_file.specs.Reads.{KeepsKeys, ranges_below}
 
 -- ---- the ranges of `bext`
 
@@ -98,72 +79,6 @@ has_bext old new body long grown none field = (
   range_fills field body long,
 )
 
--- ---- items
-
-items_more : (i : InfoItem) (is : List InfoItem) (n : FieldName) → items_held (i ∷ is) n ≡ items_held (i ∷ []) n ++ items_held is n
-items_more i is (Bext f) = refl
-items_more i is (Info id) =
-    map-append plain (item_value id.0 i) (item_values id.0 is) ∙ ap (λ (x : List (List ℕ)). map plain x ++ map plain (item_values id.0 is)) (sym (append-nil (item_value id.0 i)))
-items_more i is (Whole id) = refl
-items_more i is other = refl
-
--- the values that are there and those of the items that are left are the whole
-abbrev pub ItemsLeft : List Entry → List Entry → List InfoItem → List InfoItem → Type 0
-ItemsLeft now old rest whole = (n : FieldName) → values now n ++ items_held rest n ≡ values old n ++ items_held whole n
-
-pub item_next : (old now new : List Entry) (is whole : List InfoItem) (k : ℕ) (i : InfoItem) → k < length is → i ≡ get_or is k i → Grows now new (items_held (i ∷ [])) → ItemsLeft now old (drop k is) whole
-    → ItemsLeft new old (drop (k + 1) is) whole
-item_next old now new is whole k i lt here grown left n =
-    let rest = items_held (drop (k + 1) is) n in
-    let step : items_held (drop k is) n ≡ items_held (i ∷ []) n ++ rest
-    = at_drop_more (λ (xs : List InfoItem). items_held xs n) is k i lt ∙ ap (λ (x : InfoItem). items_held (x ∷ drop (k + 1) is) n) (sym here) ∙ items_more i (drop (k + 1) is) n in
-    ap (λ (vs : List Value). vs ++ rest) (grown n) ∙ append_assoc (values now n) (items_held (i ∷ []) n) rest ∙ ap (λ (vs : List Value). values now n ++ vs) (sym step) ∙ left n
-
-no_items : (n : FieldName) → items_held [] n ≡ []
-no_items (Bext f) = refl
-no_items (Info id) = refl
-no_items (Whole id) = refl
-no_items other = refl
-
-pub items_end : (old now : List Entry) (is whole : List InfoItem) (k : ℕ) → length is ≤ k → ItemsLeft now old (drop k is) whole → Grows old now (items_held whole)
-items_end old now is whole k le left n =
-    sym (append-nil (values now n)) ∙ ap (λ (vs : List Value). values now n ++ vs) (sym (at_drop_all (λ (xs : List InfoItem). items_held xs n) is k le ∙ no_items n)) ∙ left n
-
-pub item_added : (old new : List Entry) (i : InfoItem) (v : Value) → one_of info_ids i.id.0 ≡ true → v ≡ plain i.raw → Adds old new (Info i.id) v → Grows old new (items_held (i ∷ []))
-item_added old new i v there is a = grown_as old new (one (Info i.id) v) (items_held (i ∷ [])) (added old new (Info i.id) v a) same
-  where
-    same : (n : FieldName) → one (Info i.id) v n ≡ items_held (i ∷ []) n
-    same (Bext f) = refl
-    same (Info id) =
-        ap (λ (t : Bool). if t then v ∷ [] else []) (eq_sym i.id.0 id.0)
-        ∙ ap (λ (x : Value). if bytes_eq id.0 i.id.0 then x ∷ [] else []) is
-        ∙ go (bytes_eq id.0 i.id.0) (one_of info_ids i.id.0) there
-      where
-        go : (t u : Bool) → u ≡ true → (if t then plain i.raw ∷ [] else []) ≡ map plain ((if t then (if u then i.raw ∷ [] else []) else []) ++ [])
-        go true true e = refl
-        go false true e = refl
-        go t false e = absurd cc
-    same (Whole id) = refl
-    same other = refl
-
-pub item_passed : (old : List Entry) (i : InfoItem) → one_of info_ids i.id.0 ≡ false → Grows old old (items_held (i ∷ []))
-item_passed old i other = not_grown old (items_held (i ∷ [])) none
-  where
-    none : (n : FieldName) → items_held (i ∷ []) n ≡ []
-    none (Bext f) = refl
-    none (Info id) = go (bytes_eq id.0 i.id.0) (one_of info_ids i.id.0) other
-      where
-        go : (t u : Bool) → u ≡ false → map plain ((if t then (if u then i.raw ∷ [] else []) else []) ++ []) ≡ []
-        go true false e = refl
-        go false false e = refl
-        go t true e = absurd cc
-    none (Whole id) = refl
-    none other = refl
-
-held_values : (id : List ℕ) (cs : List Chunk) → item_values id (map item_of cs) ≡ items.values info_items id cs
-held_values id [] = refl
-held_values id (c ∷ cs) = ap (λ (x : List (List ℕ)). values_in info_items id c ++ x) (held_values id cs)
-
 -- ---- the fields of a chunk
 
 -- what a chunk holds
@@ -208,7 +123,7 @@ list_grown c old new is h e grown = grown_as old new (items_held is) (fields_of 
     same : (n : FieldName) → items_held is n ≡ fields_of (c ∷ []) n
     same (Bext f) = rw h.ranges_is refl
     same (Info id) =
-        ap (λ (x : List InfoItem). map plain (item_values id.0 x)) e
+        ap (λ (x : List InfoItem). map plain (flat_map (item_value id.0) x)) e
         ∙ ap (map plain) (held_values id.0 (list_run c).chunks ∙ sym (append-nil (items.values info_items id.0 (list_run c).chunks)))
         ∙ ap (λ (t : Bool). map plain ((if t then items.values info_items id.0 (list_run c).chunks else []) ++ [])) (sym h.list_is)
     same (Whole id) = rw (no_whole c id.0 h.whole_is) refl

@@ -23,7 +23,8 @@ use Rattle.wave_model.specs.Fields.{is_info}
 use Rattle.wave_model.specs.Edited.{parts_of}
 use Rattle.container_model.specs.Tests.{first, ended}
 use Rattle.wave_file.specs.Tests.{late_tests}
-use Rattle.wave_file.specs.Reads.{AddsFields, Grows, ReadsFields, items_held, ranges_below}
+use Rattle.info_list.specs.Fields.{Grows, items_held}
+use Rattle.wave_file.specs.Reads.{AddsFields, ReadsFields, ranges_below}
 use Rattle.wave_file.proofs.Grown.{Holding, none_grown, bext_grown, list_grown, whole_grown}
 use Rattle.wave_file.proofs.Roles.{list_holds}
 

@@ -19,7 +19,7 @@ use Rattle.part_tree.specs.Fields.{values}
 use Rattle.part_tree.specs.Names.{whole_ids, info_ids, bext_row}
 use Rattle.field_model.specs.Bext.{range_of}
 use Rattle.field_model.specs.Fields.{FieldMap, plain}
-use Rattle.info_list.specs.declared.InfoItem.{InfoItem}
+use Rattle.info_list.specs.Fields.{Grows}
 use Rattle.wave_model.specs.Wave.{is_big, wave_of, form_size, form_run, sizes_of}
 use Rattle.wave_model.specs.Fields.{body_in, fields, fields_of}
 use Rattle.wave_model.specs.Edited.{block_size, formats, parts_of}
@@ -61,22 +61,6 @@ is_ranges _ = false
 abbrev pub ranges_below : ℕ → List ℕ → FieldMap
 ranges_below k body (name.Bext field) = if nat_lt (bext_row field) k then plain (range_of (bext_row field) body) ∷ [] else []
 ranges_below k body _ = []
-
--- the values of a name in items
-abbrev pub item_value : List ℕ → InfoItem → List (List ℕ)
-item_value id i = if bytes_eq id i.id.0 then (if one_of info_ids i.id.0 then i.raw ∷ [] else []) else []
-
-abbrev pub item_values : List ℕ → List InfoItem → List (List ℕ)
-item_values id [] = []
-item_values id (i ∷ is) = item_value id i ++ item_values id is
-
-abbrev pub items_held : List InfoItem → FieldMap
-items_held is (name.Info id) = map plain (item_values id.0 is)
-items_held is _ = []
-
--- the values of a map stand behind those that were there
-abbrev pub Grows : List Entry → List Entry → FieldMap → Type 0
-Grows old new f = (n : FieldName) → values new n ≡ values old n ++ f n
 
 pub record AddsFields (c : Chunk) (at parts n : ℕ) (old new : List Entry) : Type 0 where
   pub count : n ≡ length (parts_of c)

@@ -98,7 +98,8 @@ fn is_bext(role: Role) -> bool
 fn role_in<D: Depot>(depot: &mut D, chunk: &ChunkAt, wide: bool) -> Result<Role, DepotFault>
     requires inside { Inside (chunk.now.body.at + chunk.now.body.len) (D.disk depot.old) }
     requires small { chunk.now.body.at + chunk.now.body.len < 2 ^ 63 }
-    ensures role { (b : List ℕ) → Holds (D.disk depot.old) b → IfOk result (λ r. r ≡ role_of (chunk_in b (form_kind wide) chunk.now)) }
+    ensures role { (b : List ℕ) → Holds (D.disk depot.old) b
+        → IfOk result (λ r. r ≡ role_of (chunk_in b (form_kind wide) chunk.now)) }
     ensures whole { IfOk result (λ r. r ≡ Role.Whole → one_of whole_ids chunk.now.id.0 ≡ true) }
     ensures reads { ReadsOnly (D.disk depot.old) (D.disk depot.new) }
     ensures cause { HasCause (D.disk depot.old) (D.disk depot.new) result }
@@ -139,7 +140,8 @@ fn read_align<D: Depot>(depot: &mut D, body: Span) -> Result<u16, DepotFault>
     requires inside { Inside (body.at + body.len) (D.disk depot.old) }
     requires small { body.at + body.len < 2 ^ 63 }
     requires long { 16 ≤ body.len }
-    ensures align { (b : List ℕ) → Holds (D.disk depot.old) b → IfOk result (λ n. n ≡ block_size (slice b body.at body.len)) }
+    ensures align { (b : List ℕ) → Holds (D.disk depot.old) b
+        → IfOk result (λ n. n ≡ block_size (slice b body.at body.len)) }
     ensures reads { ReadsOnly (D.disk depot.old) (D.disk depot.new) }
     ensures cause { HasCause (D.disk depot.old) (D.disk depot.new) result }
 {
@@ -159,8 +161,10 @@ fn read_essence<D: Depot>(
     requires place { chunk.now.body.at ≡ chunk.now.at + 8 }
     requires one { IsTrue (bytes_eq (codes "fmt ") chunk.now.id.0) → reading.now.align ≡ None }
     requires long { IsTrue (bytes_eq (codes "fmt ") chunk.now.id.0) → 16 ≤ chunk.now.body.len }
-    ensures essence { (b : List ℕ) → Holds (D.disk depot.old) b → (wide : Bool) → ReadsSound (chunk_in b (form_kind wide) chunk.now) chunk.now.at reading.now result }
-    ensures ends { IfOk result (λ e. Ends chunk.now.at reading.now.sound → Ends (chunk.now.body.at + chunk.now.body.len) e.sound) }
+    ensures essence { (b : List ℕ) → Holds (D.disk depot.old) b → (wide : Bool)
+        → ReadsSound (chunk_in b (form_kind wide) chunk.now) chunk.now.at reading.now result }
+    ensures ends { IfOk result (λ e. Ends chunk.now.at reading.now.sound
+        → Ends (chunk.now.body.at + chunk.now.body.len) e.sound) }
     ensures reads { ReadsOnly (D.disk depot.old) (D.disk depot.new) }
     ensures cause { result ≡ Err ReadFault.Depot → Rose (D.disk depot.old).faults (D.disk depot.new).faults }
 {
@@ -218,7 +222,10 @@ pub fn take_chunk<D: Depot>(
     requires small { found.now.chunk.next < 2 ^ 63 }
     requires order { InOrder found.now.chunk.at found.now.chunk.next found.now.chunk }
     requires partial { IsPartial reading.old found.now.chunk.at }
-    ensures took { (b : List ℕ) → Holds (D.disk depot.old) b → found.now.chunk.at + length (spell (chunk_in b (form_kind found.now.wide) found.now.chunk)) ≡ found.now.chunk.next → Takes (chunk_in b (form_kind found.now.wide) found.now.chunk) found.now.chunk.at reading.old reading.new result }
+    ensures took { (b : List ℕ) → Holds (D.disk depot.old) b
+        → found.now.chunk.at + length (spell (chunk_in b (form_kind found.now.wide) found.now.chunk))
+        ≡ found.now.chunk.next → Takes (chunk_in b (form_kind found.now.wide) found.now.chunk) found.now.chunk.at
+        reading.old reading.new result }
     ensures partial { OnOk result (IsPartial reading.new found.now.chunk.next) }
     ensures more { OnOk result (reading.old.count < reading.new.count) }
     ensures reads { ReadsOnly (D.disk depot.old) (D.disk depot.new) }

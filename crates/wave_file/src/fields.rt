@@ -1,5 +1,5 @@
 // The fields of a chunk.
-ghost use Rattle.std.specs.Prelude.{◌≡◌, ◌≤◌, ◌<◌, ◌+◌, ◌^◌, ◌∷◌, [], ℕ, List, IfErr, IfOk, OnOk, length, Bool, true};
+ghost use Rattle.std.specs.Prelude.{◌≡◌, ◌≤◌, ◌<◌, ◌+◌, ◌^◌, ℕ, List, IfErr, IfOk, OnOk, length, Bool, true};
 ghost use Rattle.me_disk.specs.Causes.{Rose};
 ghost use Rattle.me_disk.specs.Steps.{ReadsOnly};
 ghost use Rattle.me_disk.specs.Holds.{Holds, Inside};
@@ -13,11 +13,12 @@ ghost use Rattle.wave_model.specs.Fields.{is_info};
 ghost use Rattle.riff_form.specs.Walk.{chunk_in};
 ghost use Rattle.wave_model.specs.Wave.{form_kind};
 ghost use Rattle.wave_file.specs.Map.{role_of};
-ghost use Rattle.wave_file.specs.Reads.{Grows, IsNoWhy, KeepsKeys, KeepsRanges, ReadsFields, items_held, ranges_below};
+ghost use Rattle.info_list.specs.Fields.{Grows};
+ghost use Rattle.wave_file.specs.Reads.{IsNoWhy, KeepsKeys, KeepsRanges, ReadsFields, ranges_below};
 
 use crate::range::{RangeFault, read_range};
 use bext_fields::{BEXT, BextField, get_raw, rows_are_the_ranges};
-use info_list::{InfoFault, InfoItem, read_info};
+use info_list::{InfoFault, add_items, read_info};
 use me_disk::Depot;
 use part_tree::{Bytes, FieldName, Fields, NoMemory, ReadFault, Role, Span, Value, Why};
 use riff_form::ChunkAt;
@@ -57,28 +58,6 @@ fn add_bext(fields: &mut Fields, alloc: Global, body: &[u8]) -> Result<(), NoMem
     fields.add(FieldName::Bext(BextField::CodingHistory), value)
 }
 
-// Puts the items of a list whose identifiers are fields behind the fields.
-fn add_items(fields: &mut Fields, alloc: Global, items: &[InfoItem]) -> Result<(), NoMemory>
-    ensures { OnOk result (Grows fields.old fields.new (items_held items.now)) }
-{
-    'items: for item in items {
-        add_item(fields, alloc, item)?;
-    }
-    Ok(())
-}
-
-// Puts an item behind the fields, where its identifier is a field's.
-fn add_item(fields: &mut Fields, alloc: Global, item: &InfoItem) -> Result<(), NoMemory>
-    ensures { OnOk result (Grows fields.old fields.new (items_held (item.now ∷ []))) }
-{
-    let name = FieldName::Info(item.id);
-    if !name.is_field() {
-        return Ok(());
-    }
-    let value = plain_value(alloc, item.raw.as_slice())?;
-    fields.add(name, value)
-}
-
 // Reads the items of a list. Gives how many parts it is.
 fn read_items<D: Depot>(
     fields: &mut Fields,
@@ -92,7 +71,8 @@ fn read_items<D: Depot>(
     requires place { chunk.now.at + 8 ≤ chunk.now.body.at }
     requires long { 4 ≤ chunk.now.body.len }
     requires few { parts < 65536 }
-    ensures items { (b : List ℕ) → Holds (D.disk depot.old) b → is_info (chunk_in b riff chunk.now) ≡ true → ReadsFields (chunk_in b riff chunk.now) chunk.now.at parts fields.old fields.new result }
+    ensures items { (b : List ℕ) → Holds (D.disk depot.old) b → is_info (chunk_in b riff chunk.now) ≡ true
+        → ReadsFields (chunk_in b riff chunk.now) chunk.now.at parts fields.old fields.new result }
     ensures ranges { OnOk result (KeepsRanges Role.Info fields.old fields.new) }
     ensures keys { OnOk result (KeepsKeys fields.old fields.new) }
     ensures few { IfOk result (λ n. (0 < n) × (parts + n ≤ 65536)) }
@@ -138,7 +118,10 @@ fn read_whole<D: Depot>(
     requires inside { Inside (chunk.now.body.at + chunk.now.body.len) (D.disk depot.old) }
     requires small { chunk.now.body.at + chunk.now.body.len < 2 ^ 63 }
     requires name { one_of whole_ids chunk.now.id.0 ≡ true }
-    ensures value { (b : List ℕ) → Holds (D.disk depot.old) b → OnOk result (Adds fields.old fields.new (FieldName.Whole chunk.now.id) (plain (slice b chunk.now.body.at chunk.now.body.len))) }
+    ensures value { (b : List ℕ) → Holds (D.disk depot.old) b
+        → OnOk result
+        (Adds fields.old fields.new (FieldName.Whole chunk.now.id)
+        (plain (slice b chunk.now.body.at chunk.now.body.len))) }
     ensures ranges { OnOk result (KeepsRanges Role.Whole fields.old fields.new) }
     ensures keys { OnOk result (KeepsKeys fields.old fields.new) }
     ensures why { IfErr result (λ fault. IsNoWhy fault) }
@@ -166,7 +149,8 @@ fn read_bext<D: Depot>(
     requires inside { Inside (chunk.now.body.at + chunk.now.body.len) (D.disk depot.old) }
     requires small { chunk.now.body.at + chunk.now.body.len < 2 ^ 63 }
     requires long { 602 ≤ chunk.now.body.len }
-    ensures values { (b : List ℕ) → Holds (D.disk depot.old) b → OnOk result (Grows fields.old fields.new (ranges_below 15 (slice b chunk.now.body.at chunk.now.body.len))) }
+    ensures values { (b : List ℕ) → Holds (D.disk depot.old) b
+        → OnOk result (Grows fields.old fields.new (ranges_below 15 (slice b chunk.now.body.at chunk.now.body.len))) }
     ensures ranges { OnOk result (KeepsRanges Role.Bext fields.old fields.new) }
     ensures keys { OnOk result (KeepsKeys fields.old fields.new) }
     ensures why { IfErr result (λ fault. IsNoWhy fault) }
@@ -199,7 +183,9 @@ pub fn read_fields<D: Depot>(
     requires whole { role ≡ Role.Whole → one_of whole_ids chunk.now.id.0 ≡ true }
     requires long { role ≡ Role.Bext → 602 ≤ chunk.now.body.len }
     requires few { parts < 65536 }
-    ensures fields { (b : List ℕ) → Holds (D.disk depot.old) b → (wide : Bool) → role ≡ role_of (chunk_in b (form_kind wide) chunk.now) → ReadsFields (chunk_in b (form_kind wide) chunk.now) chunk.now.at parts fields.old fields.new result }
+    ensures fields { (b : List ℕ) → Holds (D.disk depot.old) b → (wide : Bool)
+        → role ≡ role_of (chunk_in b (form_kind wide) chunk.now)
+        → ReadsFields (chunk_in b (form_kind wide) chunk.now) chunk.now.at parts fields.old fields.new result }
     ensures ranges { OnOk result (KeepsRanges role fields.old fields.new) }
     ensures keys { OnOk result (KeepsKeys fields.old fields.new) }
     ensures few { IfOk result (λ n. (0 < n) × (parts + n ≤ 65536)) }

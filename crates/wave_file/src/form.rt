@@ -171,7 +171,8 @@ fn begin<D: Depot>(
     requires window { IsWindow (D.disk depot.old) walker.old.window }
     requires starts { walker.old.at ≡ 12 }
     requires fresh { IsFresh reading.old sizing.old }
-    ensures begins { (b : List ℕ) → Holds (D.disk depot.old) b → IsForm b sizing.old.ds64 walker.old.end → Begins b reading.new walker.new.at walker.new.end sizing.new result }
+    ensures begins { (b : List ℕ) → Holds (D.disk depot.old) b → IsForm b sizing.old.ds64 walker.old.end
+        → Begins b reading.new walker.new.at walker.new.end sizing.new result }
     ensures partial { OnOk result (IsPartial reading.new walker.new.at) }
     ensures few { OnOk result (length sizing.new.wides.items ≤ reading.new.count) }
     ensures end { walker.new.end ≡ walker.old.end }

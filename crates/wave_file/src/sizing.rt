@@ -94,12 +94,14 @@ pub fn next_chunk<D: Depot>(
     requires inside { Inside walker.old.end (D.disk depot.old) }
     requires window { IsWindow (D.disk depot.old) walker.old.window }
     requires few { length sizing.old.wides.items < 2 ^ 32 }
-    ensures steps { (b : List ℕ) → Holds (D.disk depot.old) b → StepsAt b walker.old.at walker.old.end sizing.old sizing.new result }
+    ensures steps { (b : List ℕ) → Holds (D.disk depot.old) b
+        → StepsAt b walker.old.at walker.old.end sizing.old sizing.new result }
     ensures order { IfOk result (λ found. IfSome found (λ f. InOrder walker.old.at walker.old.end f.chunk)) }
     ensures moved { IfOk result (λ found. walker.new.at ≡ place_found walker.old.at found) }
     ensures end { walker.new.end ≡ walker.old.end }
     ensures window { IsWindow (D.disk depot.new) walker.new.window }
-    ensures few { IfOk result (λ found. length sizing.new.wides.items ≤ length sizing.old.wides.items + count_found found) }
+    ensures few { IfOk result (λ found. length sizing.new.wides.items
+        ≤ length sizing.old.wides.items + count_found found) }
     ensures same { sizing.new.ds64 ≡ sizing.old.ds64 }
     ensures reads { ReadsOnly (D.disk depot.old) (D.disk depot.new) }
     ensures cause { result ≡ Err ReadFault.Depot → Rose (D.disk depot.old).faults (D.disk depot.new).faults }

@@ -9,7 +9,8 @@ use Rattle.part_tree.specs.declared.field.FieldName.{FieldName}
 use Rattle.part_tree.specs.declared.field.RuleSet.TheVariants.{Base}
 use Rattle.field_model.specs.Broken.{broken}
 use Rattle.field_model.specs.Kind.{NamesFields, Edited, MakeInPlace, SameEdit, IsKind}
-use Rattle.field_model.specs.Update.{RawItem, has_effect, effective, raw_items, update}
+use Rattle.field_model.specs.Update.{RawItem, effective, raw_items, update}
+use Rattle.field_model.proofs.Changed.{raws_named}
 use Rattle.field_model.proofs.Effective.{all_effective, raw_same}
 use Rattle.container_model.proofs.Codec.{IsBytes}
 use Rattle.wave_model.specs.Wave.{is_big, kind_of, Wave, wave_of, spell_wave}
@@ -25,7 +26,7 @@ use Rattle.wave_model.proofs.Items.{items_fine}
 use Rattle.wave_model.proofs.Why.{why_supported, supported_why}
 use Rattle.wave_model.proofs.Edited.{length_new}
 use Rattle.wave_model.proofs.Law.{kind_is, new_idle, small_file}
-use Rattle.wave_model.proofs.Names.{no_values, no_update, raws_named, kept_named}
+use Rattle.wave_model.proofs.Names.{no_values, no_update}
 use Rattle.wave_model.proofs.Narrow.{narrow_in_place, narrow_edited, fields_lawful}
 use Rattle.wave_model.proofs.WideLaw.{FitsWide, fits_wide, wide_reads, wide_supported, wide_fields, wide_kept, wide_pieces, wide_junk, lists_from}
 use Rattle.wave_model.proofs.WideCuts.{widened_spliced, widened_ascend}
@@ -40,7 +41,7 @@ reads_all o n e h name (inr a) = go (is_field_name name) refl
     go true k = h name k
     go false x =
         no_values (wave_of n).children name x
-        ∙ sym (no_update (fields o) (raw_items (fields o) e) (raws_named (effective (fields o) e) (kept_named (has_effect (fields o)) e a)) name x (no_values (wave_of o).children name x))
+        ∙ sym (no_update (fields o) (raw_items (fields o) e) (raws_named IsFieldName (fields o) e a) name x (no_values (wave_of o).children name x))
 
 module _ (o : List ℕ) (e : List EditItem) where
   -- ---- an edit that doesn't widen

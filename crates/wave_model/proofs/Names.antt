@@ -1,10 +1,8 @@
 -- Names that are no fields have no values, before and after an edit that names fields alone.
-use Rattle.std.proofs.Common.{◌≡◌, ℕ, ◌^◌, Bool, true, false, cond, List, [], ◌∷◌, ◌++◌, map, Option, Some, None, refl, sym, ap, ◌∙◌}
-use Rattle.std.specs.Prelude.{◌&&◌, ◌==◌, nat_lt, filter, option_map}
+use Rattle.std.proofs.Common.{◌≡◌, ℕ, ◌^◌, Bool, true, false, cond, List, [], ◌∷◌, ◌++◌, map, None, refl, sym, ap, ◌∙◌}
+use Rattle.std.specs.Prelude.{◌&&◌, ◌==◌, nat_lt}
 use Rattle.std.specs.Str.{bytes_eq}
-use Rattle.std.specs.List.{filter_map, cons_option, list_any, AllByRecursion}
-use Rattle.part_tree.specs.declared.field.Change.{Change}
-use Rattle.part_tree.specs.declared.field.Change.TheVariants.{Set, Remove}
+use Rattle.std.specs.List.{list_any, AllByRecursion}
 use Rattle.part_tree.specs.declared.field.EditItem.{EditItem}
 use Rattle.part_tree.specs.declared.field.FieldName.{FieldName}
 use Rattle.part_tree.specs.declared.field.FieldName.TheVariants.{Bext, Info, Whole, User, Key, Stream}
@@ -14,9 +12,9 @@ use Rattle.part_tree.specs.Keys.{is_key_name}
 use Rattle.part_tree.specs.Names.{is_field_name, is_user_type, same_name, info_ids, whole_ids, IsFieldName}
 use Rattle.field_model.specs.Broken.{broken}
 use Rattle.field_model.specs.Fields.{FieldMap, plain}
-use Rattle.field_model.specs.Raw.{raw_of}
-use Rattle.field_model.specs.Update.{RawItem, has_effect, effective, written, removed, raw_change, raw_item, raw_items, updated_values, updated, update}
+use Rattle.field_model.specs.Update.{RawItem, raw_items, updated_values, updated, update}
 use Rattle.field_model.specs.Update as update
+use Rattle.field_model.proofs.Changed.{raws_named}
 use Rattle.container_model.specs.Chunk.{Chunk}
 use Rattle.container_model.specs.Items.{values}
 use Rattle.container_model.proofs.Codec.{IsBytes}
@@ -66,31 +64,6 @@ no_values cs name n = refl
 
 abbrev OfFields : List RawItem → Type 0
 OfFields e = AllByRecursion (λ i. is_field_name i.name ≡ true) e
-
-change_named : (name : FieldName) (change : Change) → is_field_name name ≡ true → (e : List RawItem) → OfFields e → OfFields (cons_option (raw_change name change) e)
-change_named name (Set text) f e h = go (raw_of name text)
-  where
-    go : (o : Option (List ℕ)) → OfFields (cons_option (option_map (written name) o) e)
-    go None = h
-    go (Some raw) = (f, h)
-change_named (Bext field) Remove f e h = (f, h)
-change_named (Info id) Remove f e h = (f, h)
-change_named (Whole id) Remove f e h = (f, h)
-change_named (User id) Remove f e h = (f, h)
-change_named (Key name) Remove f e h = (f, h)
-change_named (Stream n) Remove f e h = (f, h)
-
-pub raws_named : (es : List EditItem) → AllByRecursion (λ i. IsFieldName i.name) es → OfFields (filter_map raw_item es)
-raws_named [] h = tt
-raws_named (i ∷ es) h = change_named i.name i.change h.0 (filter_map raw_item es) (raws_named es h.1)
-
-pub kept_named : (p : EditItem → Bool) (es : List EditItem) → AllByRecursion (λ i. IsFieldName i.name) es → AllByRecursion (λ i. IsFieldName i.name) (filter p es)
-kept_named p [] h = tt
-kept_named p (i ∷ es) h = go (p i) (kept_named p es h.1)
-  where
-    go : (t : Bool) → AllByRecursion (λ i. IsFieldName i.name) (filter p es) → AllByRecursion (λ i. IsFieldName i.name) (cond t (i ∷ filter p es) (filter p es))
-    go true g = (h.0, g)
-    go false g = g
 
 differ : (a b : FieldName) → is_field_name a ≡ true → is_field_name b ≡ false → same_name a b ≡ false
 differ (Bext x) (Bext y) e n = absurd cc
@@ -146,4 +119,4 @@ whole_map o e bytes sup b l h name = go (is_field_name name) refl
     go true k = (edited_law o e bytes sup b l).reads_back name k
     go false n =
         no_values (wave_of (new_file o e)).children name n
-        ∙ sym (no_update (fields o) (raw_items (fields o) e) (raws_named (effective (fields o) e) (kept_named (has_effect (fields o)) e h)) name n (no_values (wave_of o).children name n))
+        ∙ sym (no_update (fields o) (raw_items (fields o) e) (raws_named IsFieldName (fields o) e h) name n (no_values (wave_of o).children name n))

@@ -13,9 +13,10 @@ use Rattle.field_model.specs.Body.{FillsRange}
 use Rattle.field_model.specs.Fields.{plain}
 use Rattle.field_model.specs.Update.{RawItem, updated_values}
 use Rattle.field_model.specs.Update as update
+use Rattle.field_model.proofs.Same.{same_either}
 use Rattle.container_model.specs.Chunk.{Chunk, ends}
 use Rattle.container_model.specs.Items.{Item, updated, listed}
-use Rattle.container_model.proofs.Items.{same_true, same_refl}
+use Rattle.container_model.proofs.Items.{same_true}
 use Rattle.carrier_model.specs.Cells.{never, acted}
 use Rattle.carrier_model.specs.Lists.{list_values, values_held, lists_act, ActReady, place_lists}
 use Rattle.carrier_model.specs.Info.{own_size, list_run, made, one_of, info, info_items, SetsInfo, InfoReady, ItemsSmall}
@@ -229,13 +230,7 @@ pub plain_is : (v : Value) → v.lang ≡ 0 → plain v.raw ≡ v
 plain_is v e = ap (λ (l : ℕ). record { lang = l; raw = v.raw }) (sym e)
 
 pub eq_sym : (a b : List ℕ) → bytes_eq a b ≡ bytes_eq b a
-eq_sym a b = go (bytes_eq a b) (bytes_eq b a) refl refl
-  where
-    go : (t u : Bool) → bytes_eq a b ≡ t → bytes_eq b a ≡ u → t ≡ u
-    go true true x y = refl
-    go false false x y = refl
-    go true false x y = let z : bytes_eq b a ≡ true = ap (λ (k : List ℕ). bytes_eq b k) (same_true a b x) ∙ same_refl b in absurd cc
-    go false true x y = let z : bytes_eq a b ≡ true = ap (λ (k : List ℕ). bytes_eq a k) (same_true b a y) ∙ same_refl a in absurd cc
+eq_sym a b = same_either a b
 
 updated_part : (a b : List (Item (List ℕ))) (name : List ℕ) (vs : List (List ℕ)) → updated (a ++ b) name vs ≡ updated b name (updated a name vs)
 updated_part [] b name vs = refl

@@ -33,17 +33,21 @@ ghost use Rattle.part_tree.specs.Patches.{laid};
 /// edited: it is supported; its fields read back as the old ones updated; every other part is kept in its order; the
 /// blocks of sound are the same; a `JUNK` directly after `WAVE` stays; and an edit without effect changes nothing.
 pub fn new_file_is_edited()
-    ensures { (o : List ℕ) (e : List EditItem) → IsBytes o → Supported o → broken (kind_of o) 0 (fields o) e Base ≡ None → too_large o e ≡ None → Edited o e (new_file o e) }
+    ensures { (o : List ℕ) (e : List EditItem) → IsBytes o → Supported o → broken (kind_of o) 0 (fields o) e Base ≡ None
+        → too_large o e ≡ None → Edited o e (new_file o e) }
 {}
 
 /// Where every item of the edit names a field, the new file's fields are the old ones updated, at every name.
 pub fn fields_are_updated()
-    ensures { (o : List ℕ) (e : List EditItem) → IsBytes o → Supported o → broken (kind_of o) 0 (fields o) e Base ≡ None → too_large o e ≡ None → AllByRecursion (λ i. IsFieldName i.name) e → (name : FieldName) → fields (new_file o e) name ≡ update (fields o) e name }
+    ensures { (o : List ℕ) (e : List EditItem) → IsBytes o → Supported o → broken (kind_of o) 0 (fields o) e Base ≡ None
+        → too_large o e ≡ None → AllByRecursion (λ i. IsFieldName i.name) e → (name : FieldName)
+        → fields (new_file o e) name ≡ update (fields o) e name }
 {}
 
 /// An edit of which no item has an effect gives the same file.
 pub fn idle_edit_keeps_the_file()
-    ensures { (o : List ℕ) (e : List EditItem) → IsBytes o → Supported o → effective (fields o) e ≡ [] → new_file o e ≡ o }
+    ensures { (o : List ℕ) (e : List EditItem) → IsBytes o → Supported o → effective (fields o) e ≡ []
+        → new_file o e ≡ o }
 {}
 
 /// A file is supported exactly where no refusal is found.
@@ -54,7 +58,8 @@ pub fn refusals_are_exact()
 /// The new file is the old one with the spans of the edit replaced and the form's size set, and these spans ascend, are
 /// disjoint and lie in the old file.
 pub fn new_file_is_spliced()
-    ensures spliced { (o : List ℕ) (e : List EditItem) → IsBytes o → Supported o → new_file o e ≡ with_size (wave_of o).form (new_size_of o e) (splice o (cuts_of o e)) }
+    ensures spliced { (o : List ℕ) (e : List EditItem) → IsBytes o → Supported o
+        → new_file o e ≡ with_size (wave_of o).form (new_size_of o e) (splice o (cuts_of o e)) }
     ensures ascend { (o : List ℕ) (e : List EditItem) → IsBytes o → Supported o → Ascend 0 (cuts_of o e) (length o) }
 {}
 
@@ -69,9 +74,12 @@ pub fn new_file_is_no_larger()
 /// in order, lie in the new file, have at most 16 MiB, cover what the file gains, and are at most 65,536 where the edit
 /// isn't too large.
 pub fn patches_make_the_file()
-    ensures made { (o : List ℕ) (e : List EditItem) → IsBytes o → Supported o → Room o e → new_file o e ≡ laid (length (new_file o e)) (patches o e) o }
-    ensures sound { (o : List ℕ) (e : List EditItem) → IsBytes o → Supported o → Room o e → SoundPatches (length o) (length (new_file o e)) (patches o e) }
-    ensures few { (o : List ℕ) (e : List EditItem) → IsBytes o → Supported o → too_large o e ≡ None → length (patches o e) ≤ 65536 }
+    ensures made { (o : List ℕ) (e : List EditItem) → IsBytes o → Supported o → Room o e
+        → new_file o e ≡ laid (length (new_file o e)) (patches o e) o }
+    ensures sound { (o : List ℕ) (e : List EditItem) → IsBytes o → Supported o → Room o e
+        → SoundPatches (length o) (length (new_file o e)) (patches o e) }
+    ensures few { (o : List ℕ) (e : List EditItem) → IsBytes o → Supported o → too_large o e ≡ None
+        → length (patches o e) ≤ 65536 }
 {}
 
 /// A reader tells as many parts of a supported file as are counted, rests and the tail apart; at the spans of their bodies
@@ -79,8 +87,10 @@ pub fn patches_make_the_file()
 /// the body of `data`.
 pub fn what_is_told()
     ensures parts { (o : List ℕ) → IsBytes o → Supported o → count_parts (parts_of_file o) ≡ parts (wave_of o) }
-    ensures bodies { (o : List ℕ) → IsBytes o → Supported o → map (told_body o) (parts_of_file o) ≡ bodies_in (wave_of o) }
-    ensures sound { (o : List ℕ) → IsBytes o → Supported o → sounds (wave_of o).children ≡ take (sound o).len (drop (sound o).at o) ∷ [] }
+    ensures bodies { (o : List ℕ) → IsBytes o → Supported o
+        → map (told_body o) (parts_of_file o) ≡ bodies_in (wave_of o) }
+    ensures sound { (o : List ℕ) → IsBytes o → Supported o
+        → sounds (wave_of o).children ≡ take (sound o).len (drop (sound o).at o) ∷ [] }
 {}
 
 /// WAVE and RF64 files are a kind of files, where each form keeps its width: an edit that breaks no basic rule and is not too
@@ -100,8 +110,12 @@ pub fn wave_files_are_a_kind()
 /// reserved `JUNK` or the place of the new `ds64`, the units of the edit, the size of `data`, and the form's pad. These
 /// spans ascend, are disjoint and lie in the old file.
 pub fn widened_file_is_spliced()
-    ensures spliced { (o : List ℕ) (e : List EditItem) → IsBytes o → Supported o → broken (kind_of o) 0 (fields o) e Base ≡ None → large_after o e ≡ None → widens o e ≡ true → file_after o e ≡ splice o (cuts_widened o e) }
-    ensures ascend { (o : List ℕ) (e : List EditItem) → IsBytes o → Supported o → broken (kind_of o) 0 (fields o) e Base ≡ None → large_after o e ≡ None → widens o e ≡ true → Ascend 0 (cuts_widened o e) (length o) }
+    ensures spliced { (o : List ℕ) (e : List EditItem) → IsBytes o → Supported o
+        → broken (kind_of o) 0 (fields o) e Base ≡ None → large_after o e ≡ None → widens o e ≡ true
+        → file_after o e ≡ splice o (cuts_widened o e) }
+    ensures ascend { (o : List ℕ) (e : List EditItem) → IsBytes o → Supported o
+        → broken (kind_of o) 0 (fields o) e Base ≡ None → large_after o e ≡ None → widens o e ≡ true
+        → Ascend 0 (cuts_widened o e) (length o) }
 {}
 
 /// An RF64 file and the same bytes as a BW64 file are alike: both are refused for the same reason or both are supported, with
@@ -111,8 +125,11 @@ pub fn twins_are_alike()
     ensures why { (b : List ℕ) → is_big (take 4 b) ≡ true → why (twin b) ≡ why b }
     ensures fields { (b : List ℕ) (name : FieldName) → is_big (take 4 b) ≡ true → fields (twin b) name ≡ fields b name }
     ensures pieces { (b : List ℕ) → is_big (take 4 b) ≡ true → pieces (twin b) ≡ pieces b }
-    ensures new { (o : List ℕ) (e : List EditItem) → IsBytes o → Supported o → is_big (take 4 o) ≡ true → file_after (twin o) e ≡ twin (file_after o e) }
-    ensures large { (o : List ℕ) (e : List EditItem) → is_big (take 4 o) ≡ true → large_after (twin o) e ≡ large_after o e }
-    ensures room { (o : List ℕ) (e : List EditItem) → is_big (take 4 o) ≡ true → room_after (twin o) e ≡ room_after o e }
+    ensures new { (o : List ℕ) (e : List EditItem) → IsBytes o → Supported o → is_big (take 4 o) ≡ true
+        → file_after (twin o) e ≡ twin (file_after o e) }
+    ensures large { (o : List ℕ) (e : List EditItem) → is_big (take 4 o) ≡ true
+        → large_after (twin o) e ≡ large_after o e }
+    ensures room { (o : List ℕ) (e : List EditItem) → is_big (take 4 o) ≡ true
+        → room_after (twin o) e ≡ room_after o e }
     ensures patches { (o : List ℕ) (e : List EditItem) → is_big (take 4 o) ≡ true → patches (twin o) e ≡ patches o e }
 {}

@@ -31,7 +31,8 @@ pub struct Frame {
 // Whether the form's size stands in `ds64`, which ends at the byte `from` or before it: where the header's own field is FFFFFFFF.
 fn reads_wide<D: Depot>(depot: &mut D, form: FormAt, from: u64) -> Result<bool, DepotFault>
     requires form { (b : List ℕ) → Holds (D.disk depot.old) b → IsFormOf b form }
-    ensures wide { (b : List ℕ) → Holds (D.disk depot.old) b → IsBytes b → from ≡ children_at (wave_of b) → IfOk result (λ w. w ≡ is_wide b) }
+    ensures wide { (b : List ℕ) → Holds (D.disk depot.old) b → IsBytes b → from ≡ children_at (wave_of b)
+        → IfOk result (λ w. w ≡ is_wide b) }
     ensures table { IfOk result (λ w. w ≡ true → 28 ≤ from) }
     ensures reads { ReadsOnly (D.disk depot.old) (D.disk depot.new) }
     ensures cause { HasCause (D.disk depot.old) (D.disk depot.new) result }
@@ -51,7 +52,8 @@ fn reads_wide<D: Depot>(depot: &mut D, form: FormAt, from: u64) -> Result<bool, 
 pub fn read_frame<D: Depot>(depot: &mut D, form: FormAt, from: u64) -> Result<Frame, DepotFault>
     requires form { (b : List ℕ) → Holds (D.disk depot.old) b → IsFormOf b form }
     requires sound { IsSoundForm form }
-    ensures frame { (b : List ℕ) → Holds (D.disk depot.old) b → IsBytes b → from ≡ children_at (wave_of b) → IfOk result (λ f. IsFrame b f) }
+    ensures frame { (b : List ℕ) → Holds (D.disk depot.old) b → IsBytes b → from ≡ children_at (wave_of b)
+        → IfOk result (λ f. IsFrame b f) }
     ensures round { IfOk result (λ f. (end : ℕ) → 12 ≤ from → end ≤ form.end → IsRound from end f) }
     ensures len { IfOk result (λ f. f.len ≡ form.len) }
     ensures reads { ReadsOnly (D.disk depot.old) (D.disk depot.new) }

@@ -73,7 +73,8 @@ fn size_after(frame: &Frame, moved: u64) -> u64
 fn plan_narrow(alloc: Global, frame: &Frame, size: u64, units: UnitCuts) -> Result<Plan, PlanFault>
     requires stands { StandsIn frame.now units }
     requires sum { size + frame.now.len ≡ spliced_len frame.now.len units.cuts.items + frame.now.size }
-    ensures plans { (b : List ℕ) (e : List EditItem) → IsBytes b → Supported b → IsFrame b frame.now → ComesTo b e units → IsListed b e → PlansKind narrow_kind b e result }
+    ensures plans { (b : List ℕ) (e : List EditItem) → IsBytes b → Supported b → IsFrame b frame.now → ComesTo b e units
+        → IsListed b e → PlansKind narrow_kind b e result }
     ensures can { IfOk result (λ p. CanRun p) }
     ensures belongs { IfOk result (λ p. (b : List ℕ) → length b ≡ frame.now.len → Belongs p b) }
     ensures reads_nothing { result ≡ Err PlanFault.Depot → ⊥ }
@@ -115,7 +116,8 @@ pub fn plan_units(
 ) -> Result<Plan, PlanFault>
     requires stands { StandsIn frame.now units }
     requires reserved { FitsReserved widening.now.reserved }
-    ensures plans { (b : List ℕ) (e : List EditItem) → IsBytes b → Supported b → IsFrame b frame.now → IsWideningOf b widening.now → ComesTo b e units → IsListed b e → PlansKind wave_kind b e result }
+    ensures plans { (b : List ℕ) (e : List EditItem) → IsBytes b → Supported b → IsFrame b frame.now
+        → IsWideningOf b widening.now → ComesTo b e units → IsListed b e → PlansKind wave_kind b e result }
     ensures can { IfOk result (λ p. CanRun p) }
     ensures belongs { IfOk result (λ p. (b : List ℕ) → length b ≡ frame.now.len → Belongs p b) }
     ensures reads_nothing { result ≡ Err PlanFault.Depot → ⊥ }

@@ -2,7 +2,7 @@ use Rattle.std.proofs.Common.{◌∙◌, ℕ, List, subst}
 use Rattle.std.specs.List.{flat_map}
 use Rattle.info_list.specs.Info.{IsInfo}
 use Rattle.info_list.specs.declared.InfoItem.{InfoItem}
-use Rattle.avi_file.specs.Fields.{Grows, item_value, items_held}
+use Rattle.info_list.specs.Fields.{Grows, item_value, items_held}
 use Rattle.avi_file.proofs.Grown.{behind_is, list_cut, list_read, list_short, only_grows}
 use Rattle.avi_file.proofs.fields.read_list.Goals as goal
 

@@ -26,6 +26,11 @@ read_fields-requires-clause-supported g c b held =
     let holds = holds_before (g.D.Depot.disk c.args.depot.now) (g.D.Depot.disk c.read_tables.new.depot) b c.read_tables.ensures.reads held in
     all_none b (c.requires.forms b holds).tests (c.in-Ok.ensures.tables b holds).tests
 
+pub read_fields-requires-clause-streams : goal.read_fields-requires-clause-streams
+read_fields-requires-clause-streams g c b held =
+    let holds = holds_before (g.D.Depot.disk c.args.depot.now) (g.D.Depot.disk c.read_tables.new.depot) b c.read_tables.ensures.reads held in
+    c.deref-3.ensures.value ∙ (c.requires.forms b holds).streams
+
 pub read_fields-requires-clause-whole : goal.read_fields-requires-clause-whole
 read_fields-requires-clause-whole g c b held = c.requires.whole b (holds_before (g.D.Depot.disk c.args.depot.now) (g.D.Depot.disk c.read_tables.new.depot) b c.read_tables.ensures.reads held)
 

@@ -4,7 +4,7 @@ use Rattle.container_model.specs.Chunk.{riff}
 use Rattle.container_model.specs.Stood.{bare}
 use Rattle.carrier_model.specs.Info.{list_run}
 use Rattle.riff_form.specs.Walk.{chunk_in}
-use Rattle.avi_model.specs.Map.{stream_role}
+use Rattle.avi_file.specs.declared.kind.Inside.TheVariants.{Stream}
 use Rattle.avi_file.specs.Walk.{Told, Reads, ReadAll, behind_type, list_told, plain_told, run_told}
 use Rattle.avi_file.proofs.Left.{reads_then}
 use Rattle.avi_file.proofs.Opened.{open_run, behind_is}
@@ -21,8 +21,8 @@ returns-clause-opened g c b holds =
     let place : k.body.at ≡ k.at + 8 = order.body in
     let one : ReadAll (list_told (behind_type (record { at = k.at; chunk = bare this }))) c.args.reading.now c.put_stream.new.reading =
     subst (λ (s : Span). ReadAll (list_told s) c.args.reading.now c.put_stream.new.reading) (behind_is b k inside place) c.in-Ok.ensures.took in
-    reads_then (list_told (behind_type (record { at = k.at; chunk = bare this }))) (run_told (plain_told stream_role) (k.at + 12) (list_run this)) c.args.reading.now c.put_stream.new.reading c.read_chunks.new.reading c.read_chunks.result one
-    (subst (λ (t : Told). Reads t c.put_stream.new.reading c.read_chunks.new.reading c.read_chunks.result) (open_run (plain_told stream_role) b k c.requires.long inside place) (c.read_chunks.ensures.run b holds))
+    reads_then (list_told (behind_type (record { at = k.at; chunk = bare this }))) (run_told (plain_told Stream) (k.at + 12) (list_run this)) c.args.reading.now c.put_stream.new.reading c.read_chunks.new.reading c.read_chunks.result one
+    (subst (λ (t : Told). Reads t c.put_stream.new.reading c.read_chunks.new.reading c.read_chunks.result) (open_run (plain_told Stream) b k c.requires.long inside place) (c.read_chunks.ensures.run b holds))
 
 pub returns-clause-placed : goal.returns-clause-placed
 returns-clause-placed g c =

@@ -9,7 +9,7 @@ use Rattle.me_disk.proofs.Holds.{holds_on}
 use Rattle.riff_form.specs.declared.StepFault.TheVariants.{Truncated}
 use Rattle.riff_form.proofs.Windows.{window_stays}
 use Rattle.riff_form.specs.Walk.{chunk_in, row, InOrder, Stepped, Stuck}
-use Rattle.avi_file.specs.Walk.{chunk_told, end_told, plain_told, Reads, ReadAll, role_of, run_told}
+use Rattle.avi_file.specs.Walk.{carries, chunk_told, end_told, plain_told, Reads, ReadAll, role_of, run_told}
 use Rattle.avi_file.proofs.Left.{left_taken, left_refused, left_cut, left_ended, plain_next}
 use Rattle.avi_file.proofs.Placed.{keeps_then, ok_then}
 use Rattle.avi_file.proofs.list.read_chunks.Goals as goal
@@ -18,7 +18,7 @@ pub returns-in-Err-Truncated-clause-run : goal.returns-in-Err-Truncated-clause-r
 returns-in-Err-Truncated-clause-run g c b holds =
     let before = c.chunks.invariant in
     let held = holds_on (g.D.Depot.disk c.args.depot.now) (g.D.Depot.disk c.chunks.depot) b before.reads holds in
-    let told = plain_told (role_of c.args.inside) in
+    let told = plain_told c.args.inside in
     let at = c.chunks.walker.at in
     let end = c.chunks.walker.end in
     let stuck : Stuck b at end (Truncated c.in-Err-Truncated.at) = rw c.in-Err-Truncated.field-0-is at (c.in-Err-Truncated.ensures.stuck b held) in
@@ -28,7 +28,7 @@ pub returns-in-Ok-None-clause-run : goal.returns-in-Ok-None-clause-run
 returns-in-Ok-None-clause-run g c b holds =
     let before = c.chunks.invariant in
     let held = holds_on (g.D.Depot.disk c.args.depot.now) (g.D.Depot.disk c.chunks.depot) b before.reads holds in
-    let told = plain_told (role_of c.args.inside) in
+    let told = plain_told c.args.inside in
     let at = c.chunks.walker.at in
     let end = c.chunks.walker.end in
     let step : Stepped b at end None = rw c.in-Ok-None.field-0-is at (c.in-Ok-None.ensures.row b held) in
@@ -52,7 +52,7 @@ returns-in-Err-clause-run g c b holds =
     let k = c.in-Ok-Some.chunk in
     let this = chunk_in b riff k in
     let role = role_of c.args.inside this in
-    let told = plain_told (role_of c.args.inside) in
+    let told = plain_told c.args.inside in
     let at = c.chunks.walker.at in
     let end = c.chunks.walker.end in
     let held = holds_on (g.D.Depot.disk c.args.depot.now) (g.D.Depot.disk c.chunks.depot) b before.reads holds in
@@ -60,10 +60,10 @@ returns-in-Err-clause-run g c b holds =
     let step : Stepped b at end (Some k) = rw c.in-Ok-Some.field-0-is at (c.in-Ok-Some.ensures.row b held) in
     let order : InOrder at end k = rw c.in-Ok-Some.field-0-is at c.in-Ok-Some.ensures.chunk in
     let place : k.at + length (spell this) ≡ k.next = ap (λ (p : ℕ). p + length (spell this)) order.begins ∙ step.1 in
-    let took : Reads (chunk_told false role at this) c.chunks.reading c.take_chunk.new.reading (Err c.in-Err.fault)
-    = subst (λ (p : ℕ). Reads (chunk_told false role p this) c.chunks.reading c.take_chunk.new.reading (Err c.in-Err.fault)) order.begins (c.in-Err.ensures.took b later place) in
-    left_refused (run_told told c.args.start (row b c.args.start c.args.end)) (chunk_told false role at this) told told at k.next this (row b at end) (row b k.next end) c.args.reading.now c.chunks.reading c.take_chunk.new.reading c.in-Err.fault (before.left b holds) step.0 step.1
-    (plain_next (role_of c.args.inside) at k.next this (row b k.next end) step.1) took
+    let took : Reads (chunk_told (carries c.args.inside this) role at this) c.chunks.reading c.take_chunk.new.reading (Err c.in-Err.fault)
+    = subst (λ (p : ℕ). Reads (chunk_told (carries c.args.inside this) role p this) c.chunks.reading c.take_chunk.new.reading (Err c.in-Err.fault)) order.begins (c.in-Err.ensures.took b later place) in
+    left_refused (run_told told c.args.start (row b c.args.start c.args.end)) (chunk_told (carries c.args.inside this) role at this) told told at k.next this (row b at end) (row b k.next end) c.args.reading.now c.chunks.reading c.take_chunk.new.reading c.in-Err.fault (before.left b holds) step.0 step.1
+    (plain_next c.args.inside at k.next this (row b k.next end) step.1) took
 
 pub chunks-preserved : goal.chunks-preserved
 chunks-preserved g c =
@@ -80,15 +80,15 @@ chunks-preserved g c =
       left = λ b holds.
           let this = chunk_in b riff k in
           let role = role_of c.args.inside this in
-          let told = plain_told (role_of c.args.inside) in
+          let told = plain_told c.args.inside in
           let at = c.chunks.walker.at in
           let end = c.chunks.walker.end in
           let held = holds_on (g.D.Depot.disk c.args.depot.now) (g.D.Depot.disk c.chunks.depot) b before.reads holds in
           let later = holds_on (g.D.Depot.disk c.chunks.depot) (g.D.Depot.disk c.step.new.depot) b c.step.ensures.reads held in
           let step : Stepped b at end (Some k) = rw c.in-Ok-Some.field-0-is at (c.in-Ok-Some.ensures.row b held) in
           let place : k.at + length (spell this) ≡ k.next = ap (λ (p : ℕ). p + length (spell this)) order.begins ∙ step.1 in
-          let took : ReadAll (chunk_told false role at this) c.chunks.reading c.take_chunk.new.reading
-          = subst (λ (p : ℕ). ReadAll (chunk_told false role p this) c.chunks.reading c.take_chunk.new.reading) order.begins (c.in-Ok.ensures.took b later place) in
-          rw (moved, c.step.ensures.end) (left_taken (run_told told c.args.start (row b c.args.start c.args.end)) (chunk_told false role at this) told told at k.next this (row b at end) (row b k.next end) c.args.reading.now c.chunks.reading c.take_chunk.new.reading (before.left b holds) step.0 step.1
-          (plain_next (role_of c.args.inside) at k.next this (row b k.next end) step.1) took);
+          let took : ReadAll (chunk_told (carries c.args.inside this) role at this) c.chunks.reading c.take_chunk.new.reading
+          = subst (λ (p : ℕ). ReadAll (chunk_told (carries c.args.inside this) role p this) c.chunks.reading c.take_chunk.new.reading) order.begins (c.in-Ok.ensures.took b later place) in
+          rw (moved, c.step.ensures.end) (left_taken (run_told told c.args.start (row b c.args.start c.args.end)) (chunk_told (carries c.args.inside this) role at this) told told at k.next this (row b at end) (row b k.next end) c.args.reading.now c.chunks.reading c.take_chunk.new.reading (before.left b holds) step.0 step.1
+          (plain_next c.args.inside at k.next this (row b k.next end) step.1) took);
     }

@@ -2,7 +2,7 @@ use Rattle.std.proofs.Common.{◌≡◌, ◌∙◌, ◌+◌, ◌≤◌, Bool, tr
 use Rattle.std.specs.Prelude.{◌&&◌, ◌||◌, not}
 use Rattle.container_model.specs.Chunk.{riff}
 use Rattle.riff_form.specs.Walk.{chunk_in}
-use Rattle.avi_model.specs.Map.{item_role}
+use Rattle.avi_file.specs.declared.kind.Inside.TheVariants.{Items}
 use Rattle.me_disk.proofs.Runs.{ReadsOnly-refl}
 use Rattle.avi_file.specs.Walk.{Told, Reads, ReadAll, inside_told, is_hdrl_kind, is_info_kind, plain_told, stream_told}
 use Rattle.avi_file.proofs.Left.{reads_none}
@@ -41,7 +41,7 @@ returns-in-Info-clause-opened g c b holds =
     let fields : is_info_kind c.args.kind ≡ true = ap is_info_kind c.in-Info.is in
     subst (λ (t : Bool). Reads (inside_told t (is_info_kind c.args.kind) k.at (chunk_in b riff k)) c.args.reading.now c.read_chunks.new.reading c.read_chunks.result) (sym first)
     (subst (λ (t : Bool). Reads (inside_told false t k.at (chunk_in b riff k)) c.args.reading.now c.read_chunks.new.reading c.read_chunks.result) (sym fields)
-    (subst (λ (t : Told). Reads t c.args.reading.now c.read_chunks.new.reading c.read_chunks.result) (open_run (plain_told item_role) b k long (omega arith) order.body) (c.read_chunks.ensures.run b holds)))
+    (subst (λ (t : Told). Reads t c.args.reading.now c.read_chunks.new.reading c.read_chunks.result) (open_run (plain_told Items) b k long (omega arith) order.body) (c.read_chunks.ensures.run b holds)))
 
 pub returns-in-Info-clause-placed : goal.returns-in-Info-clause-placed
 returns-in-Info-clause-placed g c =

@@ -18,10 +18,10 @@ use Rattle.avi_file.proofs.Sorts.{role_is, items_is, essence_is}
 use Rattle.avi_file.proofs.top.take_top.Goals as goal
 
 -- the part that a chunk of a kind is
-part_read : (c : Chunk) (at : ℕ) (kind : TopKind) (indexed : Bool) (role : Role) (old new : Reading) (result : Result Unit ReadFault) → IsKind c kind → role ≡ role_of_kind kind indexed
-    → Reads (chunk_told (is_items role) role at c) old new result → Reads (chunk_told (is_type (codes "INFO") c) (top_role indexed c) at c) old new result
-part_read c at kind indexed role old new result is same h =
-    let items : is_items role ≡ is_type (codes "INFO") c = ap is_items same ∙ items_is kind indexed ∙ sym is.info in
+part_read : (c : Chunk) (at : ℕ) (kind : TopKind) (indexed carrier : Bool) (role : Role) (old new : Reading) (result : Result Unit ReadFault) → IsKind c kind → role ≡ role_of_kind kind indexed → carrier ≡ is_items role
+    → Reads (chunk_told carrier role at c) old new result → Reads (chunk_told (is_type (codes "INFO") c) (top_role indexed c) at c) old new result
+part_read c at kind indexed carrier role old new result is same own h =
+    let items : carrier ≡ is_type (codes "INFO") c = own ∙ ap is_items same ∙ items_is kind indexed ∙ sym is.info in
     let top : role ≡ top_role indexed c = same ∙ role_is c kind indexed is in
     subst (λ (r : Role). Reads (chunk_told (is_type (codes "INFO") c) r at c) old new result) top (subst (λ (t : Bool). Reads (chunk_told t role at c) old new result) items h)
 
@@ -40,7 +40,7 @@ returns-in-Err-put_part-clause-took g c b holds next =
     let whole : k.next ≤ length b = c.requires.inside b holds in
     let order = c.requires.order in
     reads_fail (chunk_told (is_type (codes "INFO") this) (top_role indexed this) k.at this) (inside_told (not seen && is_type (codes "hdrl") this) (is_type (codes "INFO") this) k.at this) c.args.top.now.reading c.put_part.new.reading c.put_part.new.reading c.in-Err-put_part.fault
-    (part_read this k.at c.in-Ok.kind indexed c.role_by.result c.args.top.now.reading c.put_part.new.reading (Err c.in-Err-put_part.fault) (c.in-Ok.ensures.kind b holds) c.role_by.ensures (c.in-Err-put_part.ensures.took this (stands_in b k (omega arith) next)))
+    (part_read this k.at c.in-Ok.kind indexed c.is_info.result c.role_by-role.result c.args.top.now.reading c.put_part.new.reading (Err c.in-Err-put_part.fault) (c.in-Ok.ensures.kind b holds) c.role_by-role.ensures c.is_info.ensures (c.in-Err-put_part.ensures.took this (stands_in b k (omega arith) next)))
 
 pub returns-in-Err-open_top-clause-took : goal.returns-in-Err-open_top-clause-took
 returns-in-Err-open_top-clause-took g c b holds next =
@@ -53,7 +53,7 @@ returns-in-Err-open_top-clause-took g c b holds next =
     let held = holds_on (g.D.Depot.disk c.args.depot.now) (g.D.Depot.disk c.top_kind.new.depot) b c.top_kind.ensures.reads holds in
     let kind = c.in-Ok.ensures.kind b holds in
     reads_then (chunk_told (is_type (codes "INFO") this) (top_role indexed this) k.at this) (inside_told (not seen && is_type (codes "hdrl") this) (is_type (codes "INFO") this) k.at this) c.args.top.now.reading c.put_part.new.reading c.open_top.new.reading (Err c.in-Err-open_top.fault)
-    (part_read this k.at c.in-Ok.kind indexed c.role_by.result c.args.top.now.reading c.put_part.new.reading (Ok tt) kind c.role_by.ensures (c.in-Ok-put_part.ensures.took this (stands_in b k (omega arith) next)))
+    (part_read this k.at c.in-Ok.kind indexed c.is_info.result c.role_by-role.result c.args.top.now.reading c.put_part.new.reading (Ok tt) kind c.role_by-role.ensures c.is_info.ensures (c.in-Ok-put_part.ensures.took this (stands_in b k (omega arith) next)))
     (inside_read this k.at c.in-Ok.kind seen c.put_part.new.reading c.open_top.new.reading (Err c.in-Err-open_top.fault) kind (c.in-Err-open_top.ensures.opened b held))
 
 pub returns-clause-took : goal.returns-clause-took
@@ -67,7 +67,7 @@ returns-clause-took g c b holds next =
     let held = holds_on (g.D.Depot.disk c.args.depot.now) (g.D.Depot.disk c.top_kind.new.depot) b c.top_kind.ensures.reads holds in
     let kind = c.in-Ok.ensures.kind b holds in
     reads_then (chunk_told (is_type (codes "INFO") this) (top_role indexed this) k.at this) (inside_told (not seen && is_type (codes "hdrl") this) (is_type (codes "INFO") this) k.at this) c.args.top.now.reading c.put_part.new.reading c.open_top.new.reading (Ok tt)
-    (part_read this k.at c.in-Ok.kind indexed c.role_by.result c.args.top.now.reading c.put_part.new.reading (Ok tt) kind c.role_by.ensures (c.in-Ok-put_part.ensures.took this (stands_in b k (omega arith) next)))
+    (part_read this k.at c.in-Ok.kind indexed c.is_info.result c.role_by-role.result c.args.top.now.reading c.put_part.new.reading (Ok tt) kind c.role_by-role.ensures c.is_info.ensures (c.in-Ok-put_part.ensures.took this (stands_in b k (omega arith) next)))
     (inside_read this k.at c.in-Ok.kind seen c.put_part.new.reading c.open_top.new.reading (Ok tt) kind (c.in-Ok-open_top.ensures.opened b held))
 
 -- by whether the chunk is a list of essence, in which nothing is opened
@@ -80,5 +80,5 @@ pub returns-clause-placed : goal.returns-clause-placed
 returns-clause-placed g c =
     let k = c.args.chunk.now in
     let order = c.requires.order in
-    places (is_movi_kind c.in-Ok.kind) (is_essence c.role_by.result) k.at k.next c.args.top.now.reading.parts.items c.put_part.new.reading.parts.items c.open_top.new.reading.parts.items
-    (ap is_essence c.role_by.ensures ∙ essence_is c.in-Ok.kind c.args.top.now.idx1) (omega arith) c.in-Ok-put_part.ensures.placed (λ e. c.in-Ok-put_part.ensures.inside e) c.in-Ok-open_top.ensures.placed c.open_top.ensures.same
+    places (is_movi_kind c.in-Ok.kind) (is_essence c.role_by-role.result) k.at k.next c.args.top.now.reading.parts.items c.put_part.new.reading.parts.items c.open_top.new.reading.parts.items
+    (ap is_essence c.role_by-role.ensures ∙ essence_is c.in-Ok.kind c.args.top.now.idx1) (omega arith) c.in-Ok-put_part.ensures.placed (λ e. c.in-Ok-put_part.ensures.inside e) c.in-Ok-open_top.ensures.placed c.open_top.ensures.same

@@ -1,4 +1,4 @@
-use Rattle.std.proofs.Common.{◌≡◌, ◌∙◌, ◌≤◌, length, sym, arith}
+use Rattle.std.proofs.Common.{◌≡◌, ◌∙◌, ◌+◌, ◌≤◌, length, sym, subst, arith}
 use Rattle.std.specs.declared.option.Option.TheVariants.{Some, None}
 use Rattle.container_model.specs.Chunk.{riff}
 use Rattle.me_disk.proofs.Holds.{holds_on}
@@ -6,14 +6,15 @@ use Rattle.me_disk.proofs.Runs.{ReadsOnly-refl, ReadsOnly-trans}
 use Rattle.me_disk.proofs.Windows.{empty_window}
 use Rattle.riff_form.specs.declared.StepFault.TheVariants.{Truncated}
 use Rattle.riff_form.specs.Walk.{chunk_in, row, InOrder, Stepped, Stuck}
-use Rattle.avi_names.specs.Names.{names_of}
-use Rattle.avi_names.proofs.Left.{named, unnamed, all_named, never_cut, names_start, body_is}
+use Rattle.avi_names.specs.Names.{EndBy, names_of}
+use Rattle.avi_names.proofs.Left.{end_more, named, unnamed, all_named, never_cut, names_start, body_is}
 use Rattle.avi_names.proofs.names.strl_names.Goals as goal
 
 pub chunks-init : goal.chunks-init
 chunks-init g c = record {
   end = c.new-walker.ensures.end;
   window = empty_window (g.D.Depot.disk c.args.depot.now) c.new-walker.result.window c.new-walker.ensures.empty.0 c.new-walker.ensures.empty.1;
+  inside = subst (EndBy (c.args.strl.at + c.args.strl.len)) (sym c.new-names.ensures.items) tt;
   reads = ReadsOnly-refl (g.D.Depot.disk c.args.depot.now);
   left = λ b held. names_start b c.new-walker.result.at c.new-walker.result.end c.args.strl c.new-names.result.items c.new-walker.ensures.at c.new-walker.ensures.end c.new-names.ensures.items (c.requires.whole b held);
 }
@@ -27,6 +28,7 @@ chunks-preserved-in-Ok g c =
     record {
       end = c.step.ensures.end ∙ before.end;
       window = c.step.ensures.window;
+      inside = rw c.in-Ok.ensures.items (end_more (c.args.strl.at + c.args.strl.len) c.chunks.names.items k.body before.inside (omega (arith, order.whole, order.last, before.end)));
       reads = ReadsOnly-trans _ _ _ before.reads c.step.ensures.reads;
       left = λ b holds.
           let held = holds_on (g.D.Depot.disk c.args.depot.now) (g.D.Depot.disk c.chunks.depot) b before.reads holds in
@@ -45,6 +47,7 @@ chunks-preserved g c =
     record {
       end = c.step.ensures.end ∙ before.end;
       window = c.step.ensures.window;
+      inside = before.inside;
       reads = ReadsOnly-trans _ _ _ before.reads c.step.ensures.reads;
       left = λ b holds.
           let held = holds_on (g.D.Depot.disk c.args.depot.now) (g.D.Depot.disk c.chunks.depot) b before.reads holds in

@@ -1,10 +1,17 @@
-use Rattle.std.proofs.Common.{sym, subst}
+use Rattle.std.proofs.Common.{Option, sym, subst}
 use Rattle.me_disk.specs.Disk.{bytes_of}
+use Rattle.part_tree.specs.Plans.{Belongs}
 use Rattle.file_swap.specs.Swap.{Swapping, Underway}
 use Rattle.file_swap.proofs.Installs.{begins}
+use Rattle.metaedit_top.specs.Changed.{IsFresh, OnSwap}
 use Rattle.metaedit_top.proofs.change.carry_out.Goals as goal
 
 pub run-requires : goal.run-requires
 run-requires g c κs within =
     let d = g.D.Depot.disk c.args.depot.now in
-    (within, subst (λ (s : Swapping). Underway s (bytes_of d.slots.main) d) (sym c.requires.fresh) (begins d c.args.swap.plan (bytes_of d.slots.main) c.requires.alone c.requires.belongs))
+    let fresh : IsFresh c.in-Some.swap = subst (λ (x : Option Swapping). OnSwap x IsFresh) c.in-Some.is c.requires.fresh in (
+      within,
+      subst (λ (s : Swapping). Underway s (bytes_of d.slots.main) d) (sym fresh.unmade)
+          (begins d c.in-Some.swap.plan (bytes_of d.slots.main) c.requires.alone
+          (λ tells. subst (λ (x : Option Swapping). OnSwap x (λ s. Belongs s.plan (bytes_of d.slots.main))) c.in-Some.is (c.requires.belongs tells))),
+    )

@@ -1,7 +1,8 @@
 use Rattle.std.proofs.Common.{ap, ◌∙◌}
+use Rattle.me_disk.proofs.Holds.{holds_on}
 use Rattle.me_disk.proofs.Runs.{ReadsOnly-trans}
 use Rattle.metaedit_top.specs.Told.{look_summary}
-use Rattle.metaedit_top.proofs.Looks.{show_acts}
+use Rattle.metaedit_top.proofs.Looks.{show_acts, still_read}
 use Rattle.metaedit_top.proofs.tell.show.Goals as goal
 
 pub returns : goal.returns
@@ -11,4 +12,14 @@ returns g c = λ stood.
     let d = g.D.Depot.disk c.show_text.new.depot in
     show_acts c.args.request.now stood a d c.in_ok-map.map c.in_ok-map.ensures.tells (ReadsOnly-trans a b d c.in_ok-map.ensures.reads c.in_ok-text.ensures.reads) c.requires.settled
     (g.met.D.Depot.lawful c.show_text.new.depot) (record { summary = c.look_summary-summary.result; text = c.in_ok-text.text }) c.requires.command
-    (c.look_summary-summary.ensures ∙ ap (λ n. look_summary n 0) c.payload.ensures) c.in_ok-text.ensures.text
+    (c.look_summary-summary.ensures ∙ ap (λ n. look_summary n 0) c.payload.ensures) (λ o held. c.in_ok-text.ensures.text o (holds_on a b o c.in_ok-map.ensures.reads held))
+
+pub show_text-requires-clause-inside : goal.show_text-requires-clause-inside
+show_text-requires-clause-inside g c =
+    let read = still_read (g.D.Depot.disk c.args.depot.now) (g.D.Depot.disk c.read.new.depot) c.in_ok-map.map c.in_ok-map.ensures.reads c.in_ok-map.ensures.tells in
+    read.bodies_inside
+
+pub show_text-requires-clause-tables : goal.show_text-requires-clause-tables
+show_text-requires-clause-tables g c =
+    let read = still_read (g.D.Depot.disk c.args.depot.now) (g.D.Depot.disk c.read.new.depot) c.in_ok-map.map c.in_ok-map.ensures.reads c.in_ok-map.ensures.tells in
+    read.tables

@@ -67,5 +67,5 @@ returns c =
           ∙ ap (λ (ps : List Place). both old (row x at (open_in b at c.loop-i.unit) (map (shape_in b) ps))) (sym none_left)
           ∙ c.loop-i.invariant.row b h;
       ascend = subst (λ (k : ℕ). SpansAscend c.args.from c.end.new.self.cuts.items (k + gap)) whole (c.in_ok-end.ensures.ascend c.args.from c.loop-i.invariant.so_far);
-      fits = λ len e fits. c.in_ok-end.ensures.fits c.args.from len c.loop-i.invariant.so_far (λ t. ap (λ (k : ℕ). k + gap) whole ∙ e t) fits;
+      fits = λ len e fits. c.in_ok-end.ensures.fits c.args.from len c.loop-i.invariant.so_far (λ s t. ap (λ (k : ℕ). k + gap) whole ∙ e s t) fits;
     }

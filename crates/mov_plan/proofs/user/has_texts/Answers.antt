@@ -1,4 +1,4 @@
-use Rattle.std.proofs.Common.{arith, ap, sym, refl, ◌+◌, ◌∷◌, ◌++◌, [], List, ℕ, length, take, drop, not, length-append, length-drop}
+use Rattle.std.proofs.Common.{arith, ap, sym, refl, ◌∷◌, ◌++◌, [], List, take, drop, not, length-append, length-drop}
 use Rattle.container_model.specs.Items.{is_nil}
 use Rattle.part_tree.specs.declared.field.Value.{Value}
 use Rattle.qt_text.specs.User.{text_language}

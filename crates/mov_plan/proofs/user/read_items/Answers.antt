@@ -1,12 +1,12 @@
-use Rattle.std.proofs.Common.{arith, ap, sym, subst, ◌∙◌, ◌≡◌, ◌+◌, ◌-◌, ◌++◌, ◌∷◌, [], List, ℕ, map, take, drop, append-nil}
-use Rattle.std.specs.declared.option.Option.TheVariants.{Some, None}
-use Rattle.container_model.specs.Chunk.{Chunk, Run}
+use Rattle.std.proofs.Common.{arith, ap, sym, subst, ◌∙◌, ◌≡◌, List, ℕ, take, drop}
+use Rattle.std.specs.declared.option.Option.TheVariants.{Some}
+use Rattle.container_model.specs.Chunk.{Run}
 use Rattle.container_model.specs.Sizes.{user}
-use Rattle.qt_atoms.specs.Walk.{Stepped, Stuck, atom_in, level_of, row}
+use Rattle.qt_atoms.specs.Walk.{Stepped, atom_in, level_of, row}
 use Rattle.qt_atoms.specs.declared.header.Parent.{Parent}
 use Rattle.mov_plan.specs.Users.{chunk_of}
 use Rattle.mov_plan.specs.declared.user.UserItem.{UserItem}
-use Rattle.mov_plan.proofs.Items.{items_more, last_window, none_read, stuck_read}
+use Rattle.mov_plan.proofs.Items.{items_more}
 use Rattle.mov_plan.proofs.user.read_items.Goals as goal
 
 pub atoms-preserved : goal.atoms-preserved

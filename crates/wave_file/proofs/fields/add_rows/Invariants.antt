@@ -1,4 +1,5 @@
-use Rattle.wave_file.specs.Reads.{Grows, ranges_below}
+use Rattle.info_list.specs.Fields.{Grows}
+use Rattle.wave_file.specs.Reads.{ranges_below}
 use Rattle.wave_file.proofs.fields.add_rows.Given as goal
 
 -- the ranges so far

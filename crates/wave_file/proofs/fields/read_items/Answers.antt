@@ -5,7 +5,7 @@ use Rattle.container_model.specs.Chunk.{riff}
 use Rattle.info_list.specs.Info.{IsInfo, CutInfo}
 use Rattle.riff_form.specs.Walk.{chunk_in}
 use Rattle.container_model.specs.Written.{slice}
-use Rattle.wave_file.specs.Reads.{Grows, items_held}
+use Rattle.info_list.specs.Fields.{Grows, items_held}
 use Rattle.info_list.specs.declared.InfoItem.{InfoItem}
 use Rattle.wave_file.proofs.Listed.{slice_drop, items_added, items_cut, items_many}
 use Rattle.wave_file.proofs.fields.read_items.Goals as goal

@@ -26,7 +26,7 @@ returns-then-behind-clause-outcome c = λ b inside.
 pub returns-then-behind-clause-fits : goal.returns-then-behind-clause-fits
 returns-then-behind-clause-fits c = λ from len so_far last fits.
     let so_far_at : IsSoFar from c.args.self.now c.in-Some.unit.start = subst (λ (o : Option OpenUnit). IsSoFar from c.args.self.now (open_start o c.args.end)) c.in-Some.is so_far in
-    c.in_ok-close-in-Some.ensures.fits from len so_far_at last fits
+    c.in_ok-close-in-Some.ensures.fits from len so_far_at (last c.if-behind.true) fits
 
 pub returns-in_ok-count-in-None-clause-ascend : goal.returns-in_ok-count-in-None-clause-ascend
 returns-in_ok-count-in-None-clause-ascend c = λ from so_far.

@@ -1,0 +1,13 @@
+pub mod Misfits
+pub mod Heads
+pub mod Ranges
+pub mod Made
+pub mod Renumbered
+pub mod Pads
+pub mod Indexed
+pub mod Refined
+pub mod Renewed
+pub mod Spans
+pub mod Standing
+pub mod Mixed
+pub mod Refused

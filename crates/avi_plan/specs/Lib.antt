@@ -1,0 +1,10 @@
+pub mod Moved
+pub mod Misfits
+pub mod Heads
+pub mod Changes
+pub mod Tables
+pub mod Made
+pub mod Form
+pub mod Renewed
+pub mod Planned
+pub mod Refusals
