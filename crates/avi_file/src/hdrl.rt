@@ -55,7 +55,8 @@ fn take_stream<D: Depot>(
     requires inside { IsInside chunk.now.next (D.disk depot.old) }
     requires small { chunk.now.next < 2 ^ 63 }
     requires order { InOrder chunk.now.at chunk.now.next chunk.now }
-    ensures took { (b : List ℕ) → Holds (D.disk depot.old) b → chunk.now.at + length (spell (chunk_in b riff chunk.now)) ≡ chunk.now.next
+    ensures took { (b : List ℕ) → Holds (D.disk depot.old) b
+        → chunk.now.at + length (spell (chunk_in b riff chunk.now)) ≡ chunk.now.next
         → Reads (opened_strl chunk.now.at (chunk_in b riff chunk.now)) reading.old reading.new result }
     ensures placed { OnOk result
         (KeepsPlaces chunk.now.at chunk.now.next chunk.now.next reading.old.parts.items reading.new.parts.items) }

@@ -143,7 +143,8 @@ fn take_place<D: Depot>(
     requires small { AllByRecursion (EndInside (2 ^ 63 - 1)) movis.now }
     requires inside { (b : List ℕ) → Holds (D.disk depot.old) b → AllByRecursion (EndInside (length b)) movis.now }
     ensures took { (b : List ℕ) → Holds (D.disk depot.old) b
-        → ReadsNamed (places_tests movis.now b (place_by place (place == 0))) (kept_at b (place_by place (place == 0))) named.old.items named.new.items result }
+        → ReadsNamed (places_tests movis.now b (place_by place (place == 0)))
+        (kept_at b (place_by place (place == 0))) named.old.items named.new.items result }
     ensures sound { KeepsSound named.old.items named.new.items }
     ensures reads { ReadsOnly (D.disk depot.old) (D.disk depot.new) }
     ensures cause { result ≡ Err ReadFault.Depot → Rose (D.disk depot.old).faults (D.disk depot.new).faults }
@@ -169,7 +170,8 @@ fn take_all_named<D: Depot>(
     requires body_small { body.at + body.len < 2 ^ 63 }
     requires there { 24 + 16 * used ≤ body.len }
     ensures took { (b : List ℕ) → Holds (D.disk depot.old) b
-        → ReadsNamed (rows_tests movis.now b (rows 16 used (drop 24 (slice b body.at body.len)))) (kept_rows b (rows 16 used (drop 24 (slice b body.at body.len)))) named.old.items named.new.items result }
+        → ReadsNamed (rows_tests movis.now b (rows 16 used (drop 24 (slice b body.at body.len))))
+        (kept_rows b (rows 16 used (drop 24 (slice b body.at body.len)))) named.old.items named.new.items result }
     ensures sound { KeepsSound named.old.items named.new.items }
     ensures reads { ReadsOnly (D.disk depot.old) (D.disk depot.new) }
     ensures cause { result ≡ Err ReadFault.Depot → Rose (D.disk depot.old).faults (D.disk depot.new).faults }
@@ -204,7 +206,8 @@ fn take_index<D: Depot>(
     requires body_small { body.at + body.len < 2 ^ 63 }
     requires least { 8 ≤ body.at }
     ensures took { (b : List ℕ) → Holds (D.disk depot.old) b
-        → ReadsStreams (index_tests movis.now b (table_at b body)) (kept_of (table_at b body) ∷ []) (kept_in b (table_at b body)) indexes.old indexes.new result }
+        → ReadsStreams (index_tests movis.now b (table_at b body)) (kept_of (table_at b body)
+        ∷ []) (kept_in b (table_at b body)) indexes.old indexes.new result }
     ensures streams { KeepsSound indexes.old.streams.items indexes.new.streams.items }
     ensures named { KeepsSound indexes.old.named.items indexes.new.named.items }
     ensures reads { ReadsOnly (D.disk depot.old) (D.disk depot.new) }

@@ -123,8 +123,10 @@ fn take_chunk<D: Depot>(
     requires inside { IsInside chunk.now.next (D.disk depot.old) }
     requires small { chunk.now.next < 2 ^ 63 }
     requires order { InOrder chunk.now.at chunk.now.next chunk.now }
-    ensures took { (b : List ℕ) → Holds (D.disk depot.old) b → chunk.now.at + length (spell (chunk_in b riff chunk.now)) ≡ chunk.now.next
-        → Reads (chunk_told (carries inside (chunk_in b riff chunk.now)) (role_of inside (chunk_in b riff chunk.now)) chunk.now.at (chunk_in b riff chunk.now)) reading.old reading.new result }
+    ensures took { (b : List ℕ) → Holds (D.disk depot.old) b
+        → chunk.now.at + length (spell (chunk_in b riff chunk.now)) ≡ chunk.now.next
+        → Reads (chunk_told (carries inside (chunk_in b riff chunk.now)) (role_of inside (chunk_in b riff chunk.now))
+        chunk.now.at (chunk_in b riff chunk.now)) reading.old reading.new result }
     ensures placed { OnOk result
         (KeepsPlaces chunk.now.at chunk.now.next chunk.now.next reading.old.parts.items reading.new.parts.items) }
     ensures reads { ReadsOnly (D.disk depot.old) (D.disk depot.new) }

@@ -88,8 +88,10 @@ fn take_top<D: Depot>(top: &mut Top, depot: &mut D, chunk: &ChunkAt) -> Result<(
     requires inside { IsInside chunk.now.next (D.disk depot.old) }
     requires small { chunk.now.next < 2 ^ 63 }
     requires order { InOrder chunk.now.at chunk.now.next chunk.now }
-    ensures took { (b : List ℕ) → Holds (D.disk depot.old) b → chunk.now.at + length (spell (chunk_in b riff chunk.now)) ≡ chunk.now.next
-        → Reads (opened_top top.old.hdrl top.old.idx1 chunk.now.at (chunk_in b riff chunk.now)) top.old.reading top.new.reading result }
+    ensures took { (b : List ℕ) → Holds (D.disk depot.old) b
+        → chunk.now.at + length (spell (chunk_in b riff chunk.now)) ≡ chunk.now.next
+        → Reads (opened_top top.old.hdrl top.old.idx1 chunk.now.at (chunk_in b riff chunk.now)) top.old.reading
+        top.new.reading result }
     ensures hdrl { (b : List ℕ) → Holds (D.disk depot.old) b
         → OnOk result (top.new.hdrl ≡ (top.old.hdrl || is_type (codes "hdrl") (chunk_in b riff chunk.now))) }
     ensures idx1 { (b : List ℕ) → Holds (D.disk depot.old) b

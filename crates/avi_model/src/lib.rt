@@ -90,7 +90,8 @@ pub fn numbers_stay_in_place()
 /// Where nothing is too large, the body of the new file's first form has at most 2^32-1 bytes.
 pub fn new_form_is_no_larger()
     ensures { (o : List ℕ) (e : List EditItem) → too_large o e ≡ None
-        → (effective (fields o) e ≡ []) ⊎ (length (inner (new_avi o (changes o e)).children (new_avi o (changes o e)).left) ≤ 2 ^ 32 - 1) }
+        → (effective (fields o) e ≡ []) ⊎ (length (inner (new_avi o (changes o e)).children
+        (new_avi o (changes o e)).left) ≤ 2 ^ 32 - 1) }
 {}
 
 /// A reader tells as many parts of a file, its rests and its tail apart, as are counted, and the spans of its essence, of its super indexes, of its
@@ -113,10 +114,12 @@ pub fn what_is_told()
 pub fn forms_are_read_in_turn()
     ensures forms { (b : List ℕ) → IsBytes b → joined (forms b) ≡ b }
     ensures lists { (c : Chunk) → IsBytes c.body → take 4 c.body ++ joined (list_run c) ≡ c.body }
-    ensures next { (s next : Bool) (b : List ℕ) (form : Form) (id : List ℕ) (n : ℕ) (after : List ℕ) → avi_front s b ≡ full_header form id n after next → n ≤ length after
+    ensures next { (s next : Bool) (b : List ℕ) (form : Form) (id : List ℕ) (n : ℕ) (after : List ℕ)
+        → avi_front s b ≡ full_header form id n after next → n ≤ length after
         → chunks avi_front s b ≡ and_then (chunk_of form id n after) (chunks avi_front next (behind form n after)) }
     ensures last { (s : Bool) (b : List ℕ) → avi_front s b ≡ too_short → chunks avi_front s b ≡ stopped ends b }
-    ensures cut { (s next : Bool) (b : List ℕ) (form : Form) (id : List ℕ) (n : ℕ) (after : List ℕ) → avi_front s b ≡ full_header form id n after next → length after < n
+    ensures cut { (s next : Bool) (b : List ℕ) (form : Form) (id : List ℕ) (n : ℕ) (after : List ℕ)
+        → avi_front s b ≡ full_header form id n after next → length after < n
         → chunks avi_front s b ≡ stopped passes b }
 {}
 
@@ -153,6 +156,7 @@ pub fn rows_are_relocated()
 /// 2^32 bytes: they are read again, with the names that were set and all else where it stood; tables and essence stand where
 /// the spans that are replaced put them.
 pub fn names_are_set()
-    ensures { (b : List ℕ) (e : Names) → IsBytes b → Supported b → length (spell_all (named (avi_of b) e).children) < 2 ^ 32
+    ensures { (b : List ℕ) (e : Names) → IsBytes b → Supported b
+        → length (spell_all (named (avi_of b) e).children) < 2 ^ 32
         → NamesSet (avi_of b) e }
 {}

@@ -116,13 +116,15 @@ pub fn plan_spans<D: Depot>(
     ensures makes { (b : List ℕ) (movi : ℕ) (base : Base) (xs : List Tabled) → Holds (D.disk depot.old) b
         → length b ≡ form.now.len → AllByRecursion (IsTabled b) xs → tables.now ≡ map (table_at movi base) xs
         → IfOk result (λ p. Makes p b (merged (moves_of (map (cut_in b) edits.items) form.now.len) b
-        (sizes form.now size ++ edits.items) (flat_map (changes_of (moves_of (map (cut_in b) edits.items) form.now.len) base) xs))) }
+        (sizes form.now size ++ edits.items) (flat_map (changes_of
+        (moves_of (map (cut_in b) edits.items) form.now.len) base) xs))) }
     ensures large { (b : List ℕ) (movi : ℕ) (base : Base) (xs : List Tabled) → Holds (D.disk depot.old) b
         → length b ≡ form.now.len → AllByRecursion (IsTabled b) xs → tables.now ≡ map (table_at movi base) xs
         → Tells (or_else (refused (moves_of (map (cut_in b) edits.items) form.now.len) b
         (flat_map (changes_of (moves_of (map (cut_in b) edits.items) form.now.len) base) xs))
         (too_long (spliced_len form.now.len (sizes form.now size ++ edits.items)))) result }
-    ensures form { IfOk result (λ p. IsPlanOf fits form.now.len (spliced_len form.now.len (sizes form.now size ++ edits.items))
+    ensures form { IfOk result (λ p. IsPlanOf fits form.now.len (spliced_len form.now.len (sizes form.now size
+        ++ edits.items))
         (flat_map patch_of (sizes form.now size ++ edits.items)) p) }
     ensures can { IfOk result (λ p. CanRun p) }
     ensures belongs { (b : List ℕ) → Holds (D.disk depot.old) b → length b ≡ form.now.len

@@ -199,7 +199,8 @@ fn renumber_standard<D: Depot>(
         → OnOk result (AllByRecursion (IsNamed moves.now b) changes.old.items
         → AllByRecursion (IsNamed moves.now b) changes.new.items) }
     ensures large { (b : List ℕ) → Holds (D.disk depot.old) b
-        → Tells (refused moves.now b (standard_changes moves.now head.now at (first_in head.now (drop (at + 24) b)))) result }
+        → Tells (refused moves.now b (standard_changes moves.now head.now at (first_in head.now (drop (at + 24) b))))
+        result }
     ensures reads { ReadsOnly (D.disk depot.old) (D.disk depot.new) }
     ensures cause { result ≡ Err PlanFault.Depot → Rose (D.disk depot.old).faults (D.disk depot.new).faults }
 {

@@ -181,7 +181,8 @@ impl Rewritten {
         ensures bytes { IfOk result (λ n. (ms : List Move) (b : List ℕ) (rest : List Cut)
             → made_of ms b self.new ++ splice_from self.new.at (drop self.new.at b) rest
             ≡ made_of ms b self.old
-            ++ splice_from self.old.at (drop self.old.at b) (map (change_cut ms b) (changes_up_to place (drop from changes.now)) ++ rest)) }
+            ++ splice_from self.old.at (drop self.old.at b) (map (change_cut ms b)
+            (changes_up_to place (drop from changes.now)) ++ rest)) }
         ensures order { IfOk result (λ n. self.old.at ≤ self.new.at) }
         ensures sound { IfOk result (λ n. (b : List ℕ) → AllByRecursion (IsSound (length b)) changes.now
             → IsMade b self.old → IsMade b self.new) }

@@ -20,19 +20,27 @@ use part_tree as _;
 
 /// The values of each INFO field after an edit are its old ones updated, over all lists of INFO items.
 pub fn info_is_updated()
-    ensures { (t : Test) (e : List (Item (List ℕ))) (name : List ℕ) (cs : List Chunk) → SetsInfo e → ActReady info info_items InfoReady ItemsSmall e cs
-        → list_values info info_items name (edit_lists info info_items t e cs) ≡ updated e name (list_values info info_items name cs) }
+    ensures { (t : Test) (e : List (Item (List ℕ))) (name : List ℕ) (cs : List Chunk) → SetsInfo e
+        → ActReady info info_items InfoReady ItemsSmall e cs
+        → list_values info info_items name (edit_lists info info_items t e cs)
+        ≡ updated e name (list_values info info_items name cs) }
 {}
 
 /// Where every unit of some cells fits its slot in RIFF, the patches of the units, laid over the old chunks between a front
 /// and what is behind them, make the new chunks there; nothing may be behind a slot that ends the file. The patches are in
 /// order, lie in the new chunks, and cover what these gain.
 pub fn units_are_patched()
-    ensures made { (ends : Bool) (xs : List Cell) (x r : List ℕ) → units_fit ends (units shut xs) ≡ true → (ends ≡ true → r ≡ [])
-        → laid (length x + (length (spell_all (lay (riff_fill ends) (units shut xs))) + length r)) (unit_patches (riff_fill ends) (length x) (units shut xs)) (x ++ (flat_map old_bytes (units shut xs) ++ r)) ≡ x ++ (spell_all (lay (riff_fill ends) (units shut xs)) ++ r) }
+    ensures made { (ends : Bool) (xs : List Cell) (x r : List ℕ) → units_fit ends (units shut xs) ≡ true
+        → (ends ≡ true → r ≡ [])
+        → laid (length x + (length (spell_all (lay (riff_fill ends) (units shut xs))) + length r))
+        (unit_patches (riff_fill ends) (length x) (units shut xs)) (x ++ (flat_map old_bytes (units shut xs) ++ r))
+        ≡ x ++ (spell_all (lay (riff_fill ends) (units shut xs)) ++ r) }
     ensures order { (ends : Bool) (xs : List Cell) (at : ℕ) → units_fit ends (units shut xs) ≡ true
-        → InOrder (at + length (spell_all (lay (riff_fill ends) (units shut xs)))) at (unit_patches (riff_fill ends) at (units shut xs)) }
-    ensures covers { (ends : Bool) (xs : List Cell) (at q : ℕ) → units_fit ends (units shut xs) ≡ true → at + length (flat_map old_bytes (units shut xs)) ≤ q → q < at + length (spell_all (lay (riff_fill ends) (units shut xs)))
+        → InOrder (at + length (spell_all (lay (riff_fill ends) (units shut xs)))) at
+        (unit_patches (riff_fill ends) at (units shut xs)) }
+    ensures covers { (ends : Bool) (xs : List Cell) (at q : ℕ) → units_fit ends (units shut xs) ≡ true
+        → at + length (flat_map old_bytes (units shut xs)) ≤ q
+        → q < at + length (spell_all (lay (riff_fill ends) (units shut xs)))
         → Touches q (unit_patches (riff_fill ends) at (units shut xs)) }
 {}
 

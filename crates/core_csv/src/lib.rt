@@ -28,7 +28,8 @@ pub use write::write_row;
 
 /// The table of a file and its fields gives the file an edit of which no item has an effect on those fields.
 pub fn a_written_table_is_idle()
-    ensures { (file : List ℕ) (fields : List Entry) → IsMap fields → AreBytes file → ((name : FieldName) → AreBytes (shown_in (values fields) name))
+    ensures { (file : List ℕ) (fields : List Entry) → IsMap fields → AreBytes file
+        → ((name : FieldName) → AreBytes (shown_in (values fields) name))
         → length (row file fields) ≤ MOST_BYTES
         → (items : List EditItem) × (table (row file fields) file ≡ Ok items) × (effective (values fields) items ≡ []) }
 {}

@@ -42,7 +42,8 @@ fn read_records(
     requires reading { IsReading reader.old }
     requires size { length (text_of reader.old) ≡ size }
     ensures { Answers
-        (spec.read file.now (records_from default_config (size + 1) (state_of reader.old) (text_of reader.old))) result }
+        (spec.read file.now (records_from default_config (size + 1) (state_of reader.old) (text_of reader.old)))
+        result }
 {
     let mut header = ByteRecord::new(alloc);
     if !next(reader, &mut header)? {

@@ -43,7 +43,8 @@ fn is_row_of(
     row: &ByteRecord,
 ) -> Result<bool, TableFault>
     ensures { Answers
-        (unless (spec.row_fault width n (fields_of row.now)) (Ok (spec.is_row_of file.now (fields_of row.now)))) result }
+        (unless (spec.row_fault width n (fields_of row.now)) (Ok (spec.is_row_of file.now (fields_of row.now))))
+        result }
 {
     if row.len() != width {
         return Err(TableFault::RowLength { row: n });

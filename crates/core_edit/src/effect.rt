@@ -46,7 +46,8 @@ fn shows_already(fields: &Fields, name: &FieldName, text: &[u8]) -> bool
 fn value_shows(version: u16, name: &FieldName, raw: &[u8], text: &[u8]) -> bool
     requires { HasNumber name.now raw.now }
     ensures { result ≡ (spec.same_text (shown_at version name.now raw.now) (Some text.now)
-        || spec.same_text (shown_at version name.now raw.now) (spelled_at version name.now (raw_of name.now text.now))) }
+        || spec.same_text (shown_at version name.now raw.now)
+        (spelled_at version name.now (raw_of name.now text.now))) }
 {
     match shown_text(version, name, raw) {
         Some(found) => {

@@ -30,5 +30,6 @@ pub use write::write_core;
 pub fn a_written_table_is_idle()
     ensures { (file : List ℕ) (fields : List Entry) → IsMap fields → AreBytes file
         → ((name : FieldName) → AreBytes (shown_in (values fields) name)) → length (block file fields) ≤ MOST_BYTES
-        → (items : List EditItem) × (table (block file fields) file ≡ Ok items) × (effective (values fields) items ≡ []) }
+        → (items : List EditItem) × (table (block file fields) file ≡ Ok items)
+        × (effective (values fields) items ≡ []) }
 {}

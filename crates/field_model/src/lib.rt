@@ -18,7 +18,8 @@ ghost use Rattle.field_model.specs.Update.{is_bext, raw_items, update};
 /// The fields of `bext` after an edit are the ranges of its body after the edit: raised once, then each item laid.
 /// Where there was no `bext` and an item of it has an effect, the body is made of zeros first.
 pub fn bext_is_edited()
-    ensures there { (f : FieldMap) (e : List EditItem) (body : List ℕ) (field : BextField) → 602 ≤ length body → AreRanges f body
+    ensures there { (f : FieldMap) (e : List EditItem) (body : List ℕ) (field : BextField) → 602 ≤ length body
+        → AreRanges f body
         → update f e (Bext field) ≡ plain (range_of (bext_row field) (edited_bext (raw_items f e) body)) ∷ [] }
     ensures new { (f : FieldMap) (e : List EditItem) (field : BextField) → ((other : BextField) → f (Bext other) ≡ [])
         → list_any (λ i. is_bext i.name) (raw_items f e) ≡ true

@@ -188,8 +188,10 @@ fn put_pad(_alloc: Global, out: &mut Vec<u8>, len: usize) -> Result<(), NoMemory
 /// of the chunk. The chunk of a list that was made anew is the fresh one.
 pub fn lists_are_edited()
     ensures edited { (c : Chunk) (e : List (Item (List ℕ))) (old new : InfoList) → IsInfo (drop 4 c.body) old
-        → chunks_of new ≡ put_all info_items e (chunks_of old) → new.rest ≡ old.rest → list_chunk new ≡ edit_carrier info info_items e c }
-    ensures fresh { (e : List (Item (List ℕ))) (new : InfoList) → chunks_of new ≡ put_all info_items e [] → new.rest ≡ []
+        → chunks_of new ≡ put_all info_items e (chunks_of old) → new.rest ≡ old.rest
+        → list_chunk new ≡ edit_carrier info info_items e c }
+    ensures fresh { (e : List (Item (List ℕ))) (new : InfoList) → chunks_of new ≡ put_all info_items e []
+        → new.rest ≡ []
         → list_chunk new ≡ info.fresh (put_all info_items e []) }
     ensures marks { (c : Chunk) (list : InfoList) → IsInfo (drop 4 c.body) list
         → tokens_of list ≡ items_of info info_items c }

@@ -22,7 +22,8 @@ pub trait Folder {
     /// Whether the name stands for a file.
     fn stands(&mut self, name: Slot) -> Result<bool, DepotFault>
         ensures same { tree self.new ≡ tree self.old }
-        ensures answer { IfOk result (λ there. IsTrue (is_some (tree self.old)) → (IsTrue there ↔ IsSome (held name (slots_of (tree self.old))))) };
+        ensures answer { IfOk result (λ there. IsTrue (is_some (tree self.old))
+            → (IsTrue there ↔ IsSome (held name (slots_of (tree self.old))))) };
 
     /// The length of the file, 0 where there is none.
     fn len(&mut self, name: Slot) -> Result<u64, DepotFault>
@@ -36,7 +37,8 @@ pub trait Folder {
         requires { IsTrue (is_some (tree self.old))
             → at + length into.old ≤ length (bytes_of (held name (slots_of (tree self.old)))) }
         ensures same { tree self.new ≡ tree self.old }
-        ensures bytes { OnOk result (IsTrue (is_some (tree self.old)) → into.new ≡ take (length into.old) (drop at (bytes_of (held name (slots_of (tree self.old)))))) };
+        ensures bytes { OnOk result (IsTrue (is_some (tree self.old))
+            → into.new ≡ take (length into.old) (drop at (bytes_of (held name (slots_of (tree self.old)))))) };
 
     /// Makes a new file, which is empty, under a name that stands for none.
     fn create(&mut self, name: Slot) -> Result<(), DepotFault>

@@ -35,7 +35,8 @@ pub fn metaedit<D: Depot, S: Source, K: Sink>(
 
     // Done: the new file stands alone, it is the old one edited, so many bytes were written, and the report is printed.
     ensures done { (s : Summary) → result ≡ Outcome.Done s
-        → Ends words.now (S.left table.old) (D.disk depot.old) (D.disk depot.new) (K.contents out.old) (K.contents out.new) s }
+        → Ends words.now (S.left table.old) (D.disk depot.old) (D.disk depot.new) (K.contents out.old)
+        (K.contents out.new) s }
     // What the command fixes of the summary holds on every depot.
     ensures fixes { (s : Summary) → result ≡ Outcome.Done s → FixesBy words.now s }
 
@@ -73,12 +74,15 @@ pub fn metaedit<D: Depot, S: Source, K: Sink>(
 
     // A fault has its cause; a fault of the output leaves the new file.
     ensures depot_fault { (n : ℕ) → result ≡ Outcome.DepotFault n
-        → (n ≡ (D.disk depot.new).faults) × Because words.now (S.left table.old) (D.disk depot.old) (D.disk depot.new) stop.Depot }
+        → (n ≡ (D.disk depot.new).faults)
+        × Because words.now (S.left table.old) (D.disk depot.old) (D.disk depot.new) stop.Depot }
     ensures out_fault { (edited : Bool) → result ≡ Outcome.OutFault edited
         → Rose (K.faults out.old) (K.faults out.new)
-        × EndsUnprinted words.now (S.left table.old) (D.disk depot.old) (D.disk depot.new) (K.contents out.old) (K.contents out.new) edited }
+        × EndsUnprinted words.now (S.left table.old) (D.disk depot.old) (D.disk depot.new) (K.contents out.old)
+        (K.contents out.new) edited }
     ensures memory { result ≡ Outcome.Memory
-        → (depot.new ≡ depot.old) ⊎ Because words.now (S.left table.old) (D.disk depot.old) (D.disk depot.new) stop.Memory }
+        → (depot.new ≡ depot.old) ⊎ Because words.now (S.left table.old) (D.disk depot.old) (D.disk depot.new)
+        stop.Memory }
 
     // Where nothing stands against it and nothing fails, the run comes to its end.
     ensures complete { AcceptsWords words.now (S.left table.old) (D.disk depot.old)

@@ -177,7 +177,8 @@ pub fn remember(reading: &mut Reading, holder: Holder, atom: &AtomAt) -> Result<
         → OnOk result (LiesIn holder atom.now.at atom.now.next reading.old reading.new) }
     ensures few { OnOk result (Few reading.new) }
     ensures remembers { (c : Chunk) (before : List (Step Place)) → Stands c atom.now → Knows reading.old before
-        → OnOk result (Remembers before (chunk_at (place_of holder) atom.now.at c) (part (role_by (place_of holder) reading.old.has_user c) atom.now.at c ∷ [])
+        → OnOk result (Remembers before (chunk_at (place_of holder) atom.now.at c)
+        (part (role_by (place_of holder) reading.old.has_user c) atom.now.at c ∷ [])
         reading.old reading.new) }
 {
     let part = Part {
@@ -207,7 +208,8 @@ pub fn keep_rest(reading: &mut Reading, at: u64, end: u64) -> Result<(), NoMemor
     requires few { Few reading.old }
     ensures lies { (h : Holder) → OnOk result (LiesIn h at end reading.old reading.new) }
     ensures few { OnOk result (Few reading.new) }
-    ensures remembers { (left : List ℕ) (before : List (Step Place)) (p : Place) → at + length left ≡ end → Knows reading.old before
+    ensures remembers { (left : List ℕ) (before : List (Step Place)) (p : Place) → at + length left ≡ end
+        → Knows reading.old before
         → OnOk result (Remembers before (end_at p at ends) (rest_parts at left) reading.old reading.new) }
 {
     if at == end {

@@ -66,7 +66,8 @@ fn take_atom<D: Depot>(
     requires few { Few reading.old }
     ensures took { (b : List ℕ) (before : List (Step Place)) → Holds (D.disk depot.old) b
         → atom.now.at + length (spell (atom_in b atom.now)) ≡ atom.now.next → Knows reading.old before
-        → Walks before (atom_told reading.old.has_user (place_of holder) atom.now.at (atom_in b atom.now)) reading.old reading.new result }
+        → Walks before (atom_told reading.old.has_user (place_of holder) atom.now.at (atom_in b atom.now))
+        reading.old reading.new result }
     ensures lies { OnOk result (LiesIn holder atom.now.at atom.now.next reading.old reading.new) }
     ensures few { OnOk result (Few reading.new) }
     ensures reads { ReadsOnly (D.disk depot.old) (D.disk depot.new) }
@@ -109,7 +110,8 @@ fn walk_atom<D: Depot>(
     requires few { Few reading.old }
     ensures walks { (b : List ℕ) (before : List (Step Place)) → Holds (D.disk depot.old) b
         → atom.now.at + length (spell (atom_in b atom.now)) ≡ atom.now.next → Knows reading.old before
-        → Walks before (deep_told reading.old.has_user depth (place_of holder) atom.now.at (atom_in b atom.now)) reading.old reading.new result }
+        → Walks before (deep_told reading.old.has_user depth (place_of holder) atom.now.at (atom_in b atom.now))
+        reading.old reading.new result }
     ensures lies { OnOk result (LiesIn holder atom.now.at atom.now.next reading.old reading.new) }
     ensures few { OnOk result (Few reading.new) }
     ensures reads { ReadsOnly (D.disk depot.old) (D.disk depot.new) }
@@ -142,7 +144,8 @@ fn walk_atoms<D: Depot>(
     requires small { span.at + span.len < 2 ^ 63 }
     requires few { Few reading.old }
     ensures walks { (b : List ℕ) (before : List (Step Place)) → Holds (D.disk depot.old) b → Knows reading.old before
-        → Walks before (told_in depth (place_of holder) (level_in holder) b span.at (span.at + span.len)) reading.old reading.new result }
+        → Walks before (told_in depth (place_of holder) (level_in holder) b span.at (span.at + span.len)) reading.old
+        reading.new result }
     ensures lies { OnOk result (LiesIn holder span.at (span.at + span.len) reading.old reading.new) }
     ensures few { OnOk result (Few reading.new) }
     ensures reads { ReadsOnly (D.disk depot.old) (D.disk depot.new) }
@@ -180,7 +183,8 @@ fn walk_user<D: Depot>(reading: &mut Reading, depot: &mut D, atom: &AtomAt) -> R
     requires few { Few reading.old }
     ensures walks { (b : List ℕ) (before : List (Step Place)) → Holds (D.disk depot.old) b
         → atom.now.at + length (spell (atom_in b atom.now)) ≡ atom.now.next → Knows reading.old before
-        → Walks before (kid_told reading.old.has_user true atom.now.at (atom_in b atom.now)) reading.old reading.new result }
+        → Walks before (kid_told reading.old.has_user true atom.now.at (atom_in b atom.now)) reading.old reading.new
+        result }
     ensures lies { OnOk result (LiesIn Holder.Moov atom.now.at atom.now.next reading.old reading.new) }
     ensures few { OnOk result (Few reading.new) }
     ensures reads { ReadsOnly (D.disk depot.old) (D.disk depot.new) }
@@ -201,7 +205,8 @@ fn walk_kid<D: Depot>(reading: &mut Reading, depot: &mut D, atom: &AtomAt) -> Re
     requires few { Few reading.old }
     ensures walks { (b : List ℕ) (before : List (Step Place)) → Holds (D.disk depot.old) b
         → atom.now.at + length (spell (atom_in b atom.now)) ≡ atom.now.next → Knows reading.old before
-        → Walks before (kid_told reading.old.has_user (not reading.old.has_user && bytes_eq atom.now.kind.0 (codes "udta")) atom.now.at
+        → Walks before (kid_told reading.old.has_user (not reading.old.has_user && bytes_eq atom.now.kind.0
+        (codes "udta")) atom.now.at
         (atom_in b atom.now)) reading.old reading.new result }
     ensures lies { OnOk result (LiesIn Holder.Moov atom.now.at atom.now.next reading.old reading.new) }
     ensures few { OnOk result (Few reading.new) }
@@ -257,7 +262,8 @@ pub fn walk_file<D: Depot>(reading: &mut Reading, depot: &mut D, len: u64) -> Re
     requires inside { Inside len (D.disk depot.old) }
     requires small { len < 2 ^ 63 }
     requires few { Few reading.old }
-    ensures walks { (b : List ℕ) (before : List (Step Place)) → Holds (D.disk depot.old) b → length b ≡ len → Knows reading.old before
+    ensures walks { (b : List ℕ) (before : List (Step Place)) → Holds (D.disk depot.old) b → length b ≡ len
+        → Knows reading.old before
         → Walks before (file_told b) reading.old reading.new result }
     ensures lies { OnOk result (LiesIn Holder.File 0 len reading.old reading.new) }
     ensures few { OnOk result (Few reading.new) }

@@ -47,14 +47,16 @@ pub fn narrow_files_are_a_kind()
 /// Before its tables are relocated, the new file is the old one with the slots replaced and the size of `moov` set.
 pub fn laid_is_spliced()
     ensures { (o : List ℕ) (e : Changes) → IsBytes o → Supported o
-        → spell_movie (laid_movie (movie_of o) e) ≡ with_size (movie_of o) (length (laid_movie (movie_of o) e).movie.body) (splice o (edit_cuts (movie_of o) e)) }
+        → spell_movie (laid_movie (movie_of o) e)
+        ≡ with_size (movie_of o) (length (laid_movie (movie_of o) e).movie.body) (splice o (edit_cuts (movie_of o) e)) }
 {}
 
 /// The new file is the old one with its tables relocated in their places, then the slots replaced, then the size of
 /// `moov` set.
 pub fn new_is_overlaid()
     ensures { (o : List ℕ) (e : Changes) → IsBytes o → Supported o
-        → edited_file o e ≡ with_size (movie_of o) (length (new_movie (movie_of o) e).movie.body) (splice (spell_movie (overlaid (movie_of o) e)) (edit_cuts (movie_of o) e)) }
+        → edited_file o e ≡ with_size (movie_of o) (length (new_movie (movie_of o) e).movie.body)
+        (splice (spell_movie (overlaid (movie_of o) e)) (edit_cuts (movie_of o) e)) }
 {}
 
 /// What an `mdat` holds at a place are the file's bytes there.
@@ -125,5 +127,6 @@ pub fn chunks_go_with_their_range()
     ensures ascend { (o : List ℕ) (e : List EditItem) → IsBytes o → Supported o
         → Ascend 0 (edit_cuts (movie_of o) (changes o e)) (length o) }
     ensures put { (o : List ℕ) (e : List EditItem) (p : ℕ) → IsBytes o → Supported o → IsHeld (all_atoms (movie_of o)) p
-        → place (moves_of (edit_cuts (movie_of o) (changes o e)) (length o)) p ≡ Some (shift (edit_cuts (movie_of o) (changes o e)) p) }
+        → place (moves_of (edit_cuts (movie_of o) (changes o e)) (length o)) p
+        ≡ Some (shift (edit_cuts (movie_of o) (changes o e)) p) }
 {}

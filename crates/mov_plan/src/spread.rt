@@ -57,7 +57,8 @@ impl Ranges {
         ensures held { IfOk result (λ n. (ms : List Move) (b : List ℕ) (rest : List Cut) (end : ℕ)
             → AllByRecursion (LiesIn b) tables.now
             → self.new.held.items ++ between self.new.at self.new.to rest end
-            ≡ self.old.held.items ++ between self.old.at self.old.to (map (table_in true ms b) (tables_up_to place (drop from tables.now)) ++ rest) end) }
+            ≡ self.old.held.items ++ between self.old.at self.old.to
+            (map (table_in true ms b) (tables_up_to place (drop from tables.now)) ++ rest) end) }
         ensures sound { IfOk result (λ n. AreRanges self.old → AreRanges self.new) }
     {
         let mut next = from;

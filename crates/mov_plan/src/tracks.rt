@@ -112,7 +112,8 @@ pub fn tables_of<D: Depot>(
 ) -> Result<Vec<TableAt>, TracksFault>
     requires inside { Inside end (D.disk depot.old) }
     requires small { end < 2 ^ 63 }
-    ensures tables { (b : List ℕ) → Holds (D.disk depot.old) b → length b ≡ end → IsBytes b → Supported b → tracks.now ≡ tracks_of b
+    ensures tables { (b : List ℕ) → Holds (D.disk depot.old) b → length b ≡ end → IsBytes b → Supported b
+        → tracks.now ≡ tracks_of b
         → IfOk result (λ ts. AreTables b ts.items) }
     ensures reads { ReadsOnly (D.disk depot.old) (D.disk depot.new) }
     ensures cause { result ≡ Err TracksFault.Depot → Rose (D.disk depot.old).faults (D.disk depot.new).faults }

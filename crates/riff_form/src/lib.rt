@@ -94,8 +94,10 @@ impl Walker {
         requires whole { self.old.at + 8 ≤ self.old.end }
         ensures truncated { IsErr result ↔ (self.old.end < self.old.at + 8 + size) }
         ensures place { IfErr result (λ fault. fault.at ≡ head.at) }
-        ensures numbers { IfOk result (λ chunk. (chunk.id ≡ head.id) × (chunk.at ≡ head.at) × (chunk.body ≡ record { at = head.at + 8; len = size })
-            × (chunk.next ≡ min self.old.end (head.at + 8 + size + size % 2)) × (IsTrue chunk.padded ↔ ((size % 2 ≡ 1) × (head.at + 8 + size < self.old.end)))) }
+        ensures numbers { IfOk result (λ chunk. (chunk.id ≡ head.id) × (chunk.at ≡ head.at)
+            × (chunk.body ≡ record { at = head.at + 8; len = size })
+            × (chunk.next ≡ min self.old.end (head.at + 8 + size + size % 2))
+            × (IsTrue chunk.padded ↔ ((size % 2 ≡ 1) × (head.at + 8 + size < self.old.end)))) }
         ensures ahead { IfOk result (λ chunk. self.old.at + 8 ≤ chunk.next) }
         ensures moved { IfOk result (λ chunk. (self.new.at ≡ chunk.next) × (self.new.end ≡ self.old.end)) }
         ensures stays { OnErr result ((self.new.at ≡ self.old.at) × (self.new.end ≡ self.old.end)) }

@@ -84,7 +84,8 @@ impl Runs {
             → OnOk result (samples_of self.old.samples n (runs_left b self.old.rows self.old.next)
             ≡ samples_of self.new.samples n (runs_left b self.new.rows self.new.next)) }
         ensures here { (b : List ℕ) → Holds (D.disk depot.old) b
-            → OnOk result (samples_of self.new.samples chunk (runs_left b self.new.rows self.new.next) ≡ self.new.samples) }
+            → OnOk result (samples_of self.new.samples chunk (runs_left b self.new.rows self.new.next)
+            ≡ self.new.samples) }
         ensures rows { self.new.rows ≡ self.old.rows }
         ensures next { self.new.next ≤ self.new.rows.count }
         ensures window { IsWindow (D.disk depot.new) self.new.window }

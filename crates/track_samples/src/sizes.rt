@@ -40,7 +40,8 @@ pub fn sizes_in<D: Depot>(
     requires lies { Lies (D.disk depot.old) body }
     requires window { IsWindow (D.disk depot.old) window.old }
     ensures sizes { (b : List ℕ) → Holds (D.disk depot.old) b
-        → IfOk result (λ sizes. AreSizes (slice b body.at body.len) body (size_rows_by (slice b body.at body.len)) sizes) }
+        → IfOk result (λ sizes. AreSizes (slice b body.at body.len) body (size_rows_by (slice b body.at body.len))
+        sizes) }
     ensures lie { IfOk result (λ sizes. SizesLie (D.disk depot.new) sizes) }
     ensures window { IsWindow (D.disk depot.new) window.new }
     ensures reads { ReadsOnly (D.disk depot.old) (D.disk depot.new) }

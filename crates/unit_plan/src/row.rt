@@ -88,8 +88,10 @@ impl UnitCuts {
         requires forth { place.now.at ≤ place.now.next }
         requires small { place.now.next < 2 ^ 63 }
         ensures before { IfOk result (λ o. BeginsBefore o place.now.next) }
-        ensures row { IfOk result (λ o. (b : List ℕ) (ends : Bool) (xs : List Shape) → place.now.next ≤ length b → not (no_more xs) ≡ more
-            → both (outcome_in b self.old) (row ends place.now.at (open_in b place.now.at unit) (shape_in b place.now ∷ xs))
+        ensures row { IfOk result (λ o. (b : List ℕ) (ends : Bool) (xs : List Shape) → place.now.next ≤ length b
+            → not (no_more xs) ≡ more
+            → both (outcome_in b self.old) (row ends place.now.at (open_in b place.now.at unit) (shape_in b place.now
+            ∷ xs))
             ≡ both (outcome_in b self.new) (row ends place.now.next (open_in b place.now.next o) xs)) }
         ensures so_far { IfOk result (λ o. (from : ℕ) → IsSoFar from self.old (open_start unit place.now.at)
             → IsSoFar from self.new (open_start o place.now.next)) }

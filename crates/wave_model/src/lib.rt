@@ -67,7 +67,8 @@ pub fn new_file_is_spliced()
 /// fits the field that holds it.
 pub fn new_file_is_no_larger()
     ensures { (o : List ℕ) (e : List EditItem) → too_large o e ≡ None
-        → (effective (fields o) e ≡ []) ⊎ ((length (new_file o e) ≤ 2 ^ 63 - 1) × FormSmall (wave_of o).form (wave_of o).id (new_size_of o e)) }
+        → (effective (fields o) e ≡ []) ⊎ ((length (new_file o e) ≤ 2 ^ 63 - 1)
+        × FormSmall (wave_of o).form (wave_of o).id (new_size_of o e)) }
 {}
 
 /// Where an edit has room in place, its patches, laid over the old file at the new length, make the new file; they are

@@ -91,7 +91,8 @@ fn put_rests(parts: &mut Vec<Part>, at: u64, form_end: u64, len: u64) -> Result<
     requires order { at ≤ form_end }
     requires inside { form_end ≤ len }
     requires small { len < 2 ^ 63 }
-    ensures rests { (left tail : List ℕ) (n : ℕ) → at + length left ≡ form_end → n ≡ tail_at form_end len → n + length tail ≡ len
+    ensures rests { (left tail : List ℕ) (n : ℕ) → at + length left ≡ form_end → n ≡ tail_at form_end len
+        → n + length tail ≡ len
         → OnOk result (parts.new.items ≡ parts.old.items ++ (rest_parts at left ++ rest_parts n tail)) }
     ensures why { IfErr result (λ fault. IsNoWhy fault) }
     ensures never { result ≡ Err ReadFault.Depot → ⊥ }

@@ -42,8 +42,10 @@ pub fn plan_row<D: Depot>(
     requires reserved { FitsReserved widening.now.reserved }
     requires low { 12 ≤ from }
     requires high { end ≤ form.end }
-    ensures plans { (b : List ℕ) (e : List EditItem) → Holds (D.disk depot.old) b → IsBytes b → from ≡ children_at (wave_of b) → IsWideningOf b widening.now
-        → map (shape_in b) places.now ≡ map (shape_of part_count) (edited_cells b e) → IsListed b e → PlansKind wave_kind b e result }
+    ensures plans { (b : List ℕ) (e : List EditItem) → Holds (D.disk depot.old) b → IsBytes b
+        → from ≡ children_at (wave_of b) → IsWideningOf b widening.now
+        → map (shape_in b) places.now ≡ map (shape_of part_count) (edited_cells b e) → IsListed b e
+        → PlansKind wave_kind b e result }
     ensures can { IfOk result (λ p. CanRun p) }
     ensures belongs { (b : List ℕ) → Holds (D.disk depot.old) b → IfOk result (λ p. Belongs p b) }
     ensures reads { ReadsOnly (D.disk depot.old) (D.disk depot.new) }

@@ -222,7 +222,8 @@ pub fn plan_widened(
 ) -> Result<Plan, PlanFault>
     requires stands { StandsIn frame.now units }
     requires reserved { FitsReserved widening.now.reserved }
-    ensures plans { (b : List ℕ) (e : List EditItem) → IsBytes b → Supported b → IsFrame b frame.now → IsWideningOf b widening.now → ComesTo b e units → IsListed b e
+    ensures plans { (b : List ℕ) (e : List EditItem) → IsBytes b → Supported b → IsFrame b frame.now
+        → IsWideningOf b widening.now → ComesTo b e units → IsListed b e
         → size ≡ new_size_of b e → widens b e ≡ true → PlansKind wave_kind b e result }
     ensures can { IfOk result (λ p. CanRun p) }
     ensures belongs { IfOk result (λ p. (b : List ℕ) → length b ≡ frame.now.len → Belongs p b) }
