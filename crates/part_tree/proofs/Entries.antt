@@ -291,3 +291,31 @@ new_beside es k name vs items true h is some at absent made =
     let R : List Entry → Type 0 = λ xs. Replaces es xs name vs in
     (subst M (sym made) z.0, λ yes. subst R (sym made) z.1)
 new_beside es k name vs items false h is some at absent made = let M : List Entry → Type 0 = λ xs. IsMap xs in (subst M (sym made) h, λ no. absurd cc)
+
+-- ---- the values of a name, by the entry at its place
+
+pub values_there : (es : List Entry) (k : ℕ) (name : FieldName) (here : Entry) → k < length es → k ≡ front_len (field_place name) es → here ≡ get_or es k here → same_name here.name name ≡ true
+    → here.values ≡ values es name
+values_there es k name here inside at is hit =
+    let same = ap (λ (e : Entry). e.name) (sym is) ∙ same_is_equal here.name name hit in
+    ap (λ (e : Entry). e.values) is ∙ sym (values_set es k [] name here inside same (before_front es k name here at)).1
+
+values_absent : (low : ℕ) (es : List Entry) (name : FieldName) → Ascends low es → Absent es (front_len (field_place name) es) name → [] ≡ values es name
+values_absent low [] name h absent = refl
+values_absent low (e ∷ es) name h absent = go (stands_at (field_place name) e) refl (λ none. values_absent (suc (field_place e.name)) es name h.3 none)
+  where
+    go : (t : Bool) → stands_at (field_place name) e ≡ t → (Absent es (front_len (field_place name) es) name → [] ≡ values es name) → [] ≡ values (e ∷ es) name
+    go true up again =
+        let A : ℕ → Type 0 = λ k. Absent (e ∷ es) k name in
+        let here : Absent (e ∷ es) 0 name = subst A (front_zero (field_place name) e es up) absent in
+        sym (cond-false (same_name e.name name) e.values _ (here e (omega arith))
+        ∙ values_none es name (suc (field_place e.name)) h.3 (omega (arith, leb-true (field_place name) (field_place e.name) up)))
+    go false up again =
+        let A : ℕ → Type 0 = λ k. Absent (e ∷ es) k name in
+        let there : Absent (e ∷ es) (suc (front_len (field_place name) es)) name = subst A (front_more (field_place name) e es up) absent in
+        again (λ d inside. there d (omega arith)) ∙ sym (cond-false (same_name e.name name) e.values _ (other_place e.name name (leb-false (field_place name) (field_place e.name) up)))
+
+pub values_missing : (es : List Entry) (k : ℕ) (name : FieldName) → IsMap es → k ≡ front_len (field_place name) es → Absent es k name → [] ≡ values es name
+values_missing es k name h at absent =
+    let A : ℕ → Type 0 = λ k. Absent es k name in
+    values_absent 0 es name h (subst A at absent)

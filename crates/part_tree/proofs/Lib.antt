@@ -1,4 +1,5 @@
 pub mod Entries
+pub mod Halved
 pub mod Kept
 pub mod Moved
 pub mod Stands

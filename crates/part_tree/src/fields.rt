@@ -187,10 +187,9 @@ impl Fields {
     pub fn get(&self, name: &FieldName) -> &[Value]
         ensures { result.now ≡ values self.now name.now }
     {
-        for entry in &self.entries {
-            if entry.name.is(name) {
-                return entry.values.as_slice();
-            }
+        let k = entries_before(&self.entries, name);
+        if k < self.entries.len() && self.entries[k].name.is(name) {
+            return self.entries[k].values.as_slice();
         }
         &[]
     }
@@ -209,17 +208,11 @@ impl Fields {
     }
 }
 
-// How many entries stand before a name.
+// How many entries stand before a name, found by halving.
 fn entries_before(entries: &[Entry], name: &FieldName) -> usize
+    requires in_order { IsMap entries.now }
     ensures count { result ≡ position_or_len (λ e. nat_le (field_place name.now) (field_place e.name)) entries.now }
     ensures bound { result ≤ length entries.now }
 {
-    let mut k = 0;
-    for entry in entries {
-        if !entry.name.is_before(name) {
-            return k;
-        }
-        k += 1;
-    }
-    k
+    entries.partition_point(|entry| entry.name.is_before(name))
 }
