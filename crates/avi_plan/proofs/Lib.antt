@@ -11,3 +11,6 @@ pub mod Spans
 pub mod Standing
 pub mod Mixed
 pub mod Refused
+pub mod Agreed
+pub mod Ordered
+pub mod Drops
