@@ -12,7 +12,17 @@ use Rattle.qt_atoms.specs.declared.header.SizeForm.TheVariants.{Short, Long, ToE
 use Rattle.unit_plan.specs.declared.cut.CutAt.{CutAt}
 use Rattle.mov_plan.specs.Places.{beyond_in}
 use Rattle.mov_plan.specs.Edits.{beyond_of}
+use Rattle.mov_plan.specs.Rows.{Beyond}
 use Rattle.mov_plan.specs.declared.frame.MoovAt.{MoovAt}
+use Rattle.mov_plan.specs.declared.place.Behind.{Behind}
+
+-- What stands behind the atoms of moov is told. Where bytes are left in moov no slot goes on behind it, so that the bytes there are none
+-- of a slot's.
+pub record IsBehindOf (b : List ℕ) (end : ℕ) (x : Behind) (y : Beyond) : Type 0 where
+  pub goes_on : x.goes_on ≡ y.goes_on
+  pub slot : x.goes_on ≡ true → (beyond_in b end x).slot ≡ y.slot
+  pub gaps : x.gaps ≡ y.gaps
+  pub last : x.last ≡ y.last
 
 -- where moov stands in a supported file
 pub record IsMoovOf (b : List ℕ) (m : MoovAt) : Type 0 where
@@ -25,7 +35,7 @@ pub record IsMoovOf (b : List ℕ) (m : MoovAt) : Type 0 where
       + length (header_bytes (movie_of b).movie.form (movie_of b).movie.id (length (movie_of b).movie.body))
   pub end : m.end ≡ m.from + length (spell_all (atoms_in (movie_of b).movie).chunks)
   pub left : m.left ≡ length (atoms_in (movie_of b).movie).left
-  pub behind : beyond_in b m.end m.behind ≡ beyond_of (movie_of b)
+  pub behind : IsBehindOf b m.end m.behind (beyond_of (movie_of b))
   pub others : m.others ≡ length (movie_of b).before + suc (length (past_gaps (movie_of b).behind))
 
 -- Whatever the file: the header, the atoms, what is left and the padding behind follow each other, in a file that a depot can hold.
