@@ -149,32 +149,32 @@ class Bench:
 
 
 class Batch:
-    """Batches of 64 files of every kind that the program makes: in place, rewritten, and idle."""
+    """Batches of 64 files that get one title: WAVE files in place and rewritten with AVI files among them, or movies. No field is one
+    of all kinds, so movies have a batch of their own."""
 
-    WORDS = ["batch", "INAM=" + "x" * 256]
-
-    def __init__(self, program, folder):
+    def __init__(self, program, folder, field, made):
         self.program = program
         self.folder = folder
+        self.words = ["batch", field + "=" + "x" * 256]
         self.olds = []
-        listed = chunk(b"LIST", b"INFO" + chunk(b"INAM", b"Hi\0"))
-        sound = chunk(b"data", random.randbytes(40_000))
-        self.add("in-place", wave(FORMAT, listed, chunk(b"JUNK", bytes(1016)), sound))
-        self.add("rewrite", wave(FORMAT, listed, sound))
-        for kind in ("avi", "mov"):
-            self.add_made(kind)
+        if field == "INAM":
+            listed = chunk(b"LIST", b"INFO" + chunk(b"INAM", b"Hi\0"))
+            sound = chunk(b"data", random.randbytes(40_000))
+            self.add("in-place", wave(FORMAT, listed, chunk(b"JUNK", bytes(1016)), sound))
+            self.add("rewrite", wave(FORMAT, listed, sound))
+        for number in made[1:]:
+            self.add_made(made[0], number)
 
     def add(self, how, old):
         self.olds.append((how, old))
 
-    def add_made(self, kind):
+    def add_made(self, kind, number):
         path = os.path.join(self.folder, "made." + kind)
-        child = subprocess.run([self.program, "make", path, kind, "8"], stdin=subprocess.DEVNULL, capture_output=True)
-        if child.returncode == 0:
-            self.add("any", read(path))
-            os.remove(path)
-        else:
-            print(f"batch: no {kind} files, {child.stderr.decode().strip()}")
+        child = subprocess.run([self.program, "make", path, kind, number], stdin=subprocess.DEVNULL, capture_output=True)
+        if child.returncode != 0:
+            raise Mismatch(f"make {kind} {number} answers {child.stderr.decode().strip()}")
+        self.add("any", read(path))
+        os.remove(path)
 
     def paths(self):
         return [os.path.join(self.folder, f"b{k}.file") for k in range(64)]
@@ -193,7 +193,7 @@ class Batch:
 
     def start(self):
         return subprocess.Popen(
-            [self.program, *self.WORDS, *self.paths()], stdin=subprocess.DEVNULL, stdout=subprocess.PIPE, stderr=subprocess.STDOUT)
+            [self.program, *self.words, *self.paths()], stdin=subprocess.DEVNULL, stdout=subprocess.PIPE, stderr=subprocess.STDOUT)
 
     def whole(self):
         """A batch that nobody kills: its seconds. The new files are kept."""
@@ -235,7 +235,7 @@ class Batch:
                 new, redone = self.recovered(k, path)
                 tally["new" if new else "old"] += 1
                 tally["redone"] += redone
-        print(f"batch of 64 files: {count} runs of {longest * 1000 / 1.1:.0f} ms, {tally['killed']} killed before the end; "
+        print(f"batch of 64 files, {self.words[1][:4]}: {count} runs of {longest * 1000 / 1.1:.0f} ms, {tally['killed']} killed before the end; "
               f"of all files {tally['redone']} redone; then {tally['old']} old, {tally['new']} new", flush=True)
 
 
@@ -266,7 +266,8 @@ def main():
         if b"UnknownCommand" in subprocess.run([program, "batch"], stdin=subprocess.DEVNULL, capture_output=True).stderr:
             print("batch: skipped, the program doesn't know it yet")
         else:
-            Batch(program, folder).runs(count)
+            Batch(program, folder, "INAM", ["avi", "8", "2000"]).runs(count)
+            Batch(program, folder, "@nam", ["mov", "8", "2000"]).runs(count)
     except Mismatch as fault:
         print(f"MISMATCH {fault}")
         return 1
