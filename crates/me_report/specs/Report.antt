@@ -67,3 +67,7 @@ head_lines t = kind_line t.kind ++ (count_line (codes "essence ") t.payload ++ i
 -- These, the tracks, and the fields of the file with these bytes.
 abbrev pub show_report : List ℕ → Told → List ℕ
 show_report b t = head_lines t ++ (track_lines b t.mdats 1 t.tracks ++ all_lines t.fields)
+
+-- the same of a file without tracks: its map alone tells it
+abbrev pub plain_report : Told → List ℕ
+plain_report t = head_lines t ++ all_lines t.fields

@@ -1,5 +1,5 @@
 // What is shown of a file.
-ghost use Rattle.std.specs.Prelude.{◌≡◌, ◌++◌, ℕ, List, IfOk, OnOk, Err};
+ghost use Rattle.std.specs.Prelude.{◌≡◌, ◌++◌, ℕ, List, [], IfOk, OnOk, Err};
 ghost use Rattle.std.specs.List.{AllByRecursion};
 ghost use Rattle.part_tree.specs.Fields.{values};
 ghost use Rattle.field_model.specs.KindFacts.{facts};
@@ -9,7 +9,7 @@ ghost use Rattle.me_disk.specs.Holds.{Holds};
 ghost use Rattle.me_disk.specs.Steps.{ReadsOnly};
 ghost use Rattle.part_tree.specs.Ranges.{Ascends};
 ghost use Rattle.track_samples.specs.Places.{AllInside, TablesLie};
-ghost use Rattle.me_report.specs.Report.{all_lines, counted_line, field_lines, head_lines, index_line, kind_line, show_report, text_line, track_lines, value_line};
+ghost use Rattle.me_report.specs.Report.{all_lines, counted_line, field_lines, head_lines, index_line, kind_line, plain_report, show_report, text_line, track_lines, value_line};
 
 use crate::text::{put, put_count, put_name, put_number};
 use core_edit::shown;
@@ -148,6 +148,8 @@ fn put_tracks<D: Depot>(
     requires tables { AllByRecursion (TablesLie (D.disk depot.old)) tracks.now }
     ensures lines { (b : List ℕ) → Holds (D.disk depot.old) b
         → OnOk result (out.new.items ≡ out.old.items ++ track_lines b bodies.now 1 tracks.now) }
+    ensures none { tracks.now ≡ [] → OnOk result (out.new.items ≡ out.old.items) }
+    ensures still { tracks.now ≡ [] → depot.new ≡ depot.old }
     ensures reads { ReadsOnly (D.disk depot.old) (D.disk depot.new) }
     ensures cause { result ≡ Err ReportFault.Depot → Rose (D.disk depot.old).faults (D.disk depot.new).faults }
 {
@@ -184,6 +186,9 @@ pub fn show_text<D: Depot, M: Shows>(
     requires tables { AllByRecursion (TablesLie (D.disk depot.old)) (M.told map.now).tracks }
     ensures text { (b : List ℕ) → Holds (D.disk depot.old) b
         → IfOk result (λ text. text ≡ show_report b (M.told map.now)) }
+    // A file without tracks is shown by its map alone, whatever the depot tells.
+    ensures plain { (M.told map.now).tracks ≡ [] → IfOk result (λ text. text ≡ plain_report (M.told map.now)) }
+    ensures still { (M.told map.now).tracks ≡ [] → depot.new ≡ depot.old }
     ensures reads { ReadsOnly (D.disk depot.old) (D.disk depot.new) }
     ensures cause { result ≡ Err ReportFault.Depot → Rose (D.disk depot.old).faults (D.disk depot.new).faults }
 {

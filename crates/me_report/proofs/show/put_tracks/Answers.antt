@@ -1,4 +1,4 @@
-use Rattle.std.proofs.Common.{arith, ◌≡◌, ◌+◌, get_or}
+use Rattle.std.proofs.Common.{arith, ◌≡◌, ◌+◌, get_or, length, ap}
 use Rattle.me_disk.proofs.Holds.{holds_on}
 use Rattle.me_disk.proofs.Runs.{ReadsOnly-trans}
 use Rattle.me_report.proofs.Tracks.{next_track, no_track}
@@ -10,6 +10,8 @@ tracks-preserved g c =
     record {
       number = omega (arith, inv.number);
       reads = ReadsOnly-trans _ _ _ inv.reads c.count_track.ensures.reads;
+      none = λ is. absurd (omega (arith, c.tracks-test.true, ap length is));
+      still = λ is. absurd (omega (arith, c.tracks-test.true, ap length is));
       lines = λ b holds.
           let held = holds_on _ _ b inv.reads holds in
           next_track b c.args.bodies.now c.args.tracks.now c.tracks.track-index c.tracks.number c.in-Ok.counts.chunks c.in-Ok.counts.samples no_track c.tracks.out.items c.put_track.new.out.items _ c.tracks-test.true
