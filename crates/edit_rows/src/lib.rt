@@ -12,6 +12,8 @@ mod table_tests;
 mod tables;
 #[cfg(test)]
 mod tests;
+#[cfg(test)]
+mod writer_tests;
 
 pub use files::{
     CHECKED, DATED, EMPTY, EMPTY_TITLED, JOURNAL, LARGE, LARGE_TITLED, LOUD, NUMBERED, ODD,
