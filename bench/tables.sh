@@ -11,7 +11,7 @@ here=$(cd "$(dirname -- "$0")" && pwd)
 
 file=$folder/f.wav
 table=$folder/table
-cp "$here/../crates/metaedit/data/f.wav" "$file"
+cp "$here/../docs/examples/f.wav" "$file"
 "$program" set "$file" 'INAM=A title, with a "quoted" word' 'ICMT=one\two' 'Description=<a> & b' 'IART=Ængus' >/dev/null
 
 unchanged() { # FORMAT TABLE WHO: applying the table changes nothing
