@@ -15,7 +15,7 @@ use Rattle.opendml_index.specs.Kinds.{second_lies}
 use Rattle.opendml_index.proofs.Known.{standard_kind}
 use Rattle.avi_model.specs.Avi.{Avi, avi_of, essence, first_movi, old_indexes}
 use Rattle.avi_model.specs.Index.{base, indexes, named_by, olds, streams, write_index, write_old}
-use Rattle.avi_model.specs.Large.{Check, entry_checks, index_checks, offset_checks, old_checks, row_checks, second_checks, standard_checks}
+use Rattle.avi_model.specs.Large.{Check, Placed, entry_checks, index_checks, offset_checks, old_checks, row_checks, second_checks, standard_checks, tables_placed}
 use Rattle.avi_model.specs.NewFile.{cut_of_write, put_cuts, table_cuts}
 use Rattle.avi_model.specs.Support.{SoundEntries, SoundEntry, SoundRow, SoundRows, Supported, by_place, movi_spans}
 use Rattle.avi_model.proofs.Among.{Among, all_among, among_all, among_append, map_among}
@@ -23,6 +23,16 @@ use Rattle.avi_model.proofs.Counted.{first_holder, second_of}
 use Rattle.avi_model.proofs.Entries.{first_is, place_named}
 use Rattle.avi_model.proofs.Sorted.{from_sorted}
 use Rattle.avi_model.proofs.Sound.{holder_of, named_from, named_place, named_sound}
+
+-- what is tested of a table, where it stands
+abbrev told_at : ℕ → List Check → Placed
+told_at at cs = record { at = at; checks = cs }
+
+abbrev index_told : (ℕ → ℕ) → Table → Placed
+index_told f t = record { at = t.at; checks = index_checks f t }
+
+abbrev old_told : (ℕ → ℕ) → Base → Table → Placed
+old_told f b t = record { at = t.at; checks = old_checks f b t }
 
 -- ---- rows
 
@@ -210,3 +220,12 @@ module _ (o : List ℕ) (bytes : IsBytes o) (s : Supported o) (f g : ℕ → ℕ
           let k = Rattle.avi_model.proofs.Among.among_map stood.table_of (old_indexes (avi_of o)) t i in
           subst (λ (u : Table). cut_of_write (write_old (move f) (base o) u) ≡ cut_of_write (write_old (move g) (base o) u)) k.same
           (ap (λ (x : List ℕ). record { at = (stood.table_of k.from).at; len = length x; bytes = x }) (old_body_agrees k.from k.from_among)))
+
+  pub placed_agree : tables_placed f o ≡ tables_placed g o
+  placed_agree =
+      ap (λ (ps : List Placed). ps ++ map (old_told f (base o)) (olds o)) (map_agree (index_told f) (index_told g) (indexes o) (λ t i. ap (λ (cs : List Check). told_at t.at cs) (checks_agree t i)))
+      ∙ ap (λ (ps : List Placed). map (index_told g) (indexes o) ++ ps)
+      (map_agree (old_told f (base o)) (old_told g (base o)) (olds o)
+      (λ t i.
+      let k = Rattle.avi_model.proofs.Among.among_map stood.table_of (old_indexes (avi_of o)) t i in
+      subst (λ (u : Table). old_told f (base o) u ≡ old_told g (base o) u) k.same (ap (λ (cs : List Check). told_at (stood.table_of k.from).at cs) (old_checks_agree k.from k.from_among))))

@@ -5,16 +5,8 @@ use Rattle.std.proofs.lemmas.Bool.{cases_lt, cond-false, cond-true, le-leb, leb-
 use Rattle.container_model.specs.Splice.{Ascend, Cut, Outside, end_of, gained, lost, shift, splice}
 use Rattle.container_model.proofs.Splice.{before_lost}
 use Rattle.avi_model.specs.NewFile.{put_cut, put_cuts}
+use Rattle.avi_plan.specs.Drops.{Drops, IsStill}
 use Rattle.avi_plan.proofs.Refined.{Behind, cut_more, left, piece, refine_none}
-
--- a span in the place of which its own bytes stand
-abbrev pub IsStill : List ℕ → Cut → Type 0
-IsStill b c = c.bytes ≡ take c.len (drop c.at b)
-
--- the second spans are the first but for some of those
-abbrev pub Drops : List ℕ → List Cut → List Cut → Type 0
-Drops b [] ds = ds ≡ []
-Drops b (c ∷ cs) ds = (IsStill b c × Drops b cs ds) ⊎ ((es : List Cut) × (ds ≡ c ∷ es) × Drops b cs es)
 
 pub ascend_low : (p q end : ℕ) (cs : List Cut) → p ≤ q → Ascend q cs end → Ascend p cs end
 ascend_low p q end [] le h = omega (arith, le, h)

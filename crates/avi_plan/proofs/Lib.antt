@@ -14,3 +14,6 @@ pub mod Refused
 pub mod Agreed
 pub mod Ordered
 pub mod Drops
+pub mod Goes
+pub mod Patched
+pub mod Answered

@@ -8,3 +8,6 @@ pub mod Form
 pub mod Renewed
 pub mod Planned
 pub mod Refusals
+pub mod Drops
+pub mod Patched
+pub mod Comes

@@ -26,12 +26,14 @@ mod form;
 mod head;
 mod misfit;
 mod moves;
+mod patches;
 mod plan;
 mod renumber;
 mod segments;
 mod table;
 #[cfg(test)]
 mod tests;
+mod units;
 
 pub use form::{FormAt, pad_stays, with_pad, with_size};
 pub use head::{entry_width, first_counted, read_head};
@@ -41,6 +43,7 @@ pub use plan::plan_spans;
 pub use renumber::renumber_all;
 pub use segments::segments_with;
 pub use table::{Change, TableAt, TableKind};
+pub use units::{Passed, plan_edit};
 
 /// What changes of tables that stand one behind the other in a file, whose rows can name their new places, is the body of each with
 /// its numbers moved as the model of AVI files moves them.

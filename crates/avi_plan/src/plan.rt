@@ -8,24 +8,26 @@ ghost use Rattle.part_tree.specs.declared.plan.Patch.{Patch};
 ghost use Rattle.part_tree.specs.Plans.{Belongs, CanRun};
 ghost use Rattle.container_model.specs.Tests.{or_else};
 ghost use Rattle.carrier_model.specs.Gaps.{moves_of};
-ghost use Rattle.unit_plan.specs.Cuts.{FitsIn, SpansAscend, cut_in, patch_of};
+ghost use Rattle.unit_plan.specs.Cuts.{SpansAscend, cut_in};
 ghost use Rattle.unit_plan.specs.Planned.{IsPlanOf};
 ghost use Rattle.unit_plan.specs.Sized.{IsTooMuch, spliced_len};
 ghost use Rattle.avi_index.specs.Rows.{Base};
 ghost use Rattle.avi_plan.specs.Changes.{IsNamed, IsSound, Tells, merged, refused};
 ghost use Rattle.avi_plan.specs.Form.{IsSoundForm, sizes};
+ghost use Rattle.avi_plan.specs.Patched.{FitsOn, placed_patches};
 ghost use Rattle.avi_plan.specs.Planned.{Makes, too_long};
 ghost use Rattle.avi_plan.specs.Tables.{IsTabled, Tabled, changes_of, table_at};
 
 use crate::form::{FormAt, with_size};
 use crate::moves::moves_between;
+use crate::patches::in_place;
 use crate::renumber::renumber_all;
 use crate::segments::segments_with;
 use crate::table::{Change, TableAt};
 use me_disk::Depot;
 use part_tree::{Moves, NoMemory, Plan, PlanFault};
 use std::alloc::Global;
-use unit_plan::{CutAt, in_place, new_len};
+use unit_plan::{CutAt, new_len};
 
 const MOST_LEN: u64 = 9_223_372_036_854_775_807;
 
@@ -69,7 +71,7 @@ fn plan_cuts(
     new_len: u64,
 ) -> Result<Plan, NoMemory>
     requires ascend { SpansAscend 0 cuts.now len }
-    requires fits { fits ≡ true → FitsIn len cuts.now }
+    requires fits { fits ≡ true → FitsOn len cuts.now }
     requires sound { AllByRecursion (IsSound len) changes.now }
     requires new { new_len ≡ spliced_len len cuts.now }
     requires old_small { len < 2 ^ 63 }
@@ -78,7 +80,7 @@ fn plan_cuts(
     ensures belongs { IfOk result (λ p. (b : List ℕ) → length b ≡ len → AllByRecursion (IsNamed moves b) changes.now
         → Belongs p b) }
     ensures makes { IfOk result (λ p. (b : List ℕ) → length b ≡ len → Makes p b (merged moves b cuts.now changes.now)) }
-    ensures form { IfOk result (λ p. IsPlanOf fits len new_len (flat_map patch_of cuts.now) p) }
+    ensures form { IfOk result (λ p. IsPlanOf fits len new_len (placed_patches cuts.now) p) }
 {
     if !fits {
         let plan = rewrite(alloc, cuts, changes, moves, len, new_len)?;
@@ -111,7 +113,7 @@ pub fn plan_spans<D: Depot>(
     requires sound { IsSoundForm form.now }
     requires inside { Inside form.now.len (D.disk depot.old) }
     requires ascend { SpansAscend 8 edits.items form.now.len }
-    requires fits { fits ≡ true → FitsIn form.now.len (sizes form.now size ++ edits.items) }
+    requires fits { fits ≡ true → FitsOn form.now.len (sizes form.now size ++ edits.items) }
     requires small { size < 2 ^ 32 }
     ensures makes { (b : List ℕ) (movi : ℕ) (base : Base) (xs : List Tabled) → Holds (D.disk depot.old) b
         → length b ≡ form.now.len → AllByRecursion (IsTabled b) xs → tables.now ≡ map (table_at movi base) xs
@@ -125,7 +127,11 @@ pub fn plan_spans<D: Depot>(
         (too_long (spliced_len form.now.len (sizes form.now size ++ edits.items)))) result }
     ensures form { IfOk result (λ p. IsPlanOf fits form.now.len (spliced_len form.now.len (sizes form.now size
         ++ edits.items))
-        (flat_map patch_of (sizes form.now size ++ edits.items)) p) }
+        (placed_patches (sizes form.now size ++ edits.items)) p) }
+    ensures named { (b : List ℕ) (movi : ℕ) (base : Base) (xs : List Tabled) → Holds (D.disk depot.old) b
+        → length b ≡ form.now.len → AllByRecursion (IsTabled b) xs → tables.now ≡ map (table_at movi base) xs
+        → IfOk result (λ p. AllByRecursion (IsNamed (moves_of (map (cut_in b) edits.items) form.now.len) b)
+        (flat_map (changes_of (moves_of (map (cut_in b) edits.items) form.now.len) base) xs)) }
     ensures can { IfOk result (λ p. CanRun p) }
     ensures belongs { (b : List ℕ) → Holds (D.disk depot.old) b → length b ≡ form.now.len
         → IfOk result (λ p. Belongs p b) }

@@ -4,8 +4,9 @@ use Rattle.part_tree.specs.Large.{Size}
 use Rattle.part_tree.specs.Moves.{Move}
 use Rattle.container_model.specs.Tests.{or_else}
 use Rattle.carrier_model.specs.Gaps.{moves_of}
-use Rattle.unit_plan.specs.Cuts.{FitsIn, SpansAscend, cut_in, patch_of}
+use Rattle.unit_plan.specs.Cuts.{SpansAscend, cut_in}
 use Rattle.unit_plan.specs.Planned.{IsPlanOf}
+use Rattle.avi_plan.specs.Patched.{FitsOn, placed_patches}
 use Rattle.unit_plan.specs.Sized.{spliced_len}
 use Rattle.unit_plan.specs.declared.cut.CutAt.{CutAt}
 use Rattle.avi_plan.specs.Changes.{IsNamed, TellsFault, merged, refused}
@@ -41,7 +42,7 @@ plan_cuts-requires-clause-ascend g c =
 
 pub plan_cuts-requires-clause-fits : goal.plan_cuts-requires-clause-fits
 plan_cuts-requires-clause-fits g c = λ fits.
-    subst (λ (ks : List CutAt). FitsIn c.args.form.now.len ks) (sym (c.deref-3.ensures.value ∙ c.in-Ok-with_size.ensures)) (c.requires.fits fits)
+    subst (λ (ks : List CutAt). FitsOn c.args.form.now.len ks) (sym (c.deref-3.ensures.value ∙ c.in-Ok-with_size.ensures)) (c.requires.fits fits)
 
 pub returns-clause-makes : goal.returns-clause-makes
 returns-clause-makes g c = λ b movi base xs held long tabled told.
@@ -58,9 +59,14 @@ returns-clause-large g c = λ b movi base xs held long tabled told.
 
 pub returns-clause-form : goal.returns-clause-form
 returns-clause-form g c =
-    subst (λ (n : ℕ). IsPlanOf c.args.fits c.args.form.now.len n (flat_map patch_of (sizes c.args.form.now c.args.size ++ c.args.edits.items)) c.in-Ok-plan_cuts.plan) (c.in-Some.ensures ∙ ap (spliced_len c.args.form.now.len) (c.deref-2.ensures.value ∙ c.in-Ok-with_size.ensures))
-    (subst (λ (ks : List CutAt). IsPlanOf c.args.fits c.args.form.now.len c.in-Some.len (flat_map patch_of ks) c.in-Ok-plan_cuts.plan) (c.deref-3.ensures.value ∙ c.in-Ok-with_size.ensures) c.in-Ok-plan_cuts.ensures.form)
+    subst (λ (n : ℕ). IsPlanOf c.args.fits c.args.form.now.len n (placed_patches (sizes c.args.form.now c.args.size ++ c.args.edits.items)) c.in-Ok-plan_cuts.plan) (c.in-Some.ensures ∙ ap (spliced_len c.args.form.now.len) (c.deref-2.ensures.value ∙ c.in-Ok-with_size.ensures))
+    (subst (λ (ks : List CutAt). IsPlanOf c.args.fits c.args.form.now.len c.in-Some.len (placed_patches ks) c.in-Ok-plan_cuts.plan) (c.deref-3.ensures.value ∙ c.in-Ok-with_size.ensures) c.in-Ok-plan_cuts.ensures.form)
 
 pub returns-clause-belongs : goal.returns-clause-belongs
 returns-clause-belongs g c = λ b held long.
     c.in-Ok-plan_cuts.ensures.belongs b long (subst (λ (cs : List Change). AllByRecursion (IsNamed c.in-Ok.moves b) cs) (sym c.deref-4.ensures.value) (c.in-Ok-renumber_all.ensures.named b held))
+
+pub returns-clause-named : goal.returns-clause-named
+returns-clause-named g c = λ b movi base xs held long tabled told.
+    subst (λ (ms : List Move). AllByRecursion (IsNamed ms b) (flat_map (changes_of ms base) xs)) (c.in-Ok.ensures b long ∙ ap (λ (ks : List CutAt). moves_of (map (cut_in b) ks) c.args.form.now.len) c.deref.ensures.value)
+    (subst (λ (cs : List Change). AllByRecursion (IsNamed c.in-Ok.moves b) cs) (c.in-Ok-renumber_all.ensures.changes b movi base xs held tabled told) (c.in-Ok-renumber_all.ensures.named b held))
