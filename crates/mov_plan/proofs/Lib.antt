@@ -40,3 +40,4 @@ pub mod Known
 pub mod Carrying
 pub mod Tabled
 pub mod Rowing
+pub mod Nesting

@@ -13,3 +13,5 @@ pub mod Keyed
 pub mod Carry
 pub mod Tracks
 pub mod Atoms
+pub mod Within
+pub mod Nested
