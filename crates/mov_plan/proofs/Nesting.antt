@@ -1,16 +1,18 @@
 -- What is met in the atoms of `moov`: how many atoms, and those in which tables stand.
-use Rattle.std.proofs.Common.{◌≡◌, ◌∙◌, ℕ, zero, suc, ◌+◌, ◌-◌, ◌≤◌, ◌<◌, Bool, true, false, cond, List, [], ◌∷◌, ◌++◌, length, take, drop, get_or, refl, sym, ap, subst, arith, append_assoc, append-nil, length-append, Option, Some, None}
-use Rattle.std.specs.Prelude.{◌&&◌, ◌||◌, codes, if◌then◌else◌, not}
+use Rattle.std.proofs.Common.{◌≡◌, ◌∙◌, ℕ, zero, suc, ◌+◌, ◌-◌, ◌≤◌, ◌<◌, Bool, true, false, List, [], ◌∷◌, ◌++◌, length, take, drop, get_or, refl, sym, ap, subst, arith, append_assoc, append-nil, length-append, Option, Some, None}
+use Rattle.std.specs.Prelude.{IsTrue, ◌^◌, ◌&&◌, ◌||◌, codes, if◌then◌else◌, not}
 use Rattle.std.specs.List.{flat_map}
 use Rattle.std.specs.Str.{bytes_eq}
 use Rattle.std.proofs.lemmas.List.{get_or_default}
 use Rattle.std.proofs.lemmas.List.Concat.{flat_map-append}
+use Rattle.me_disk.specs.Disk.{Disk, bytes_of}
+use Rattle.me_disk.specs.Holds.{Inside}
+use Rattle.me_disk.specs.Steps.{ReadsOnly}
 use Rattle.part_tree.specs.Letters.{four}
 use Rattle.container_model.specs.Atoms.{atom}
 use Rattle.container_model.specs.Chunk.{Chunk, Run, Stop, chunks, spell, spell_all}
-use Rattle.container_model.specs.Deep.{Leaf}
 use Rattle.container_model.specs.Sizes.{Level, atom_front, inside, user}
-use Rattle.container_model.specs.Walk.{Step, along, body_at, chunk_at, chunk_met, end_at, nested, walk, walk_at}
+use Rattle.container_model.specs.Walk.{Step, along, body_at, chunk_at, chunk_met, end_at, walk, walk_at}
 use Rattle.container_model.specs.Written.{slice}
 use Rattle.container_model.proofs.Items.{same_true}
 use Rattle.container_model.proofs.Walk.{walk_nested}
@@ -24,7 +26,7 @@ use Rattle.qt_atoms.proofs.Steps.{header_length}
 use Rattle.qt_text.specs.User.{udta}
 use Rattle.unit_plan.proofs.Spans.{next_item}
 use Rattle.mov_plan.specs.Atoms.{AllFollow, AreRow}
-use Rattle.mov_plan.specs.Nested.{IsNext, Meets, counted}
+use Rattle.mov_plan.specs.Nested.{IsNext, Meets, StandIn, counted}
 use Rattle.mov_plan.specs.Planned.{AreEach, HolderAt, IsHolder, holder_met, holds_by}
 use Rattle.mov_plan.specs.Shapes.{atoms_by, atoms_of}
 
@@ -158,11 +160,13 @@ walk_some (suc d) p q c b k some e place body =
     let r = chunks atom_front inside c.body in
     let end = body_at k.at c + (0 + length (spell_all r.chunks)) in
     let less : suc d - 1 ≡ d = omega arith in
-    let near : body_at k.at c + 0 ≡ k.body.at = omega (arith, place) in
-    (end, ap (λ (o : Option Place). chunk_at p k.at c ∷ walk_at format (walk format d) k.at c o) (opens_any p c.id (take 4 c.body) ∙ sym e)
-    ∙ ap (λ (i : ℕ). chunk_at p k.at c ∷ opened_steps d q i end r) near
-    ∙ ap (λ (x : Run). chunk_at p k.at c ∷ opened_steps d q k.body.at end x) (kids_run inside c b k body)
-    ∙ ap (λ (i : ℕ). chunk_at p k.at c ∷ opened_steps i q k.body.at end (row inside b k.body.at (k.body.at + k.body.len))) (sym less))
+    let near : body_at k.at c + 0 ≡ k.body.at = omega (arith, place) in (
+      end,
+      ap (λ (o : Option Place). chunk_at p k.at c ∷ walk_at format (walk format d) k.at c o) (opens_any p c.id (take 4 c.body) ∙ sym e)
+          ∙ ap (λ (i : ℕ). chunk_at p k.at c ∷ opened_steps d q i end r) near
+          ∙ ap (λ (x : Run). chunk_at p k.at c ∷ opened_steps d q k.body.at end x) (kids_run inside c b k body)
+          ∙ ap (λ (i : ℕ). chunk_at p k.at c ∷ opened_steps i q k.body.at end (row inside b k.body.at (k.body.at + k.body.len))) (sym less),
+    )
 
 body_stands : (b : List ℕ) (k : AtomAt) (end : ℕ) → InOrder k.at end k → body_at k.at (atom_in b k) ≡ k.body.at
 body_stands b k end order = ap (λ (n : ℕ). k.at + n) (header_length k.form k.kind.0 (length (slice b k.body.at k.body.len)) order.letters) ∙ sym order.body
@@ -230,20 +234,28 @@ kid_met false at c = ap length (walk_nested format 5 moov at c)
 next_atom : (ks : List AtomAt) (i : ℕ) (d : AtomAt) → i < length ks → drop i ks ≡ get_or ks i d ∷ drop (i + 1) ks
 next_atom ks i d lt = next_item ks i (get_or ks i d) lt (get_or_default ks i d (get_or ks i d) lt)
 
--- an atom that follows others, and those behind it
-follows : (end : ℕ) (ks : List AtomAt) (i : ℕ) (d : AtomAt) → i < length ks → (from : ℕ) × AllFollow from (drop i ks) end → (from : ℕ) × AllFollow from (get_or ks i d ∷ drop (i + 1) ks) end
-follows end ks i d lt f = (f.0, subst (λ (js : List AtomAt). AllFollow f.0 js end) (next_atom ks i d lt) f.1)
+-- the atom with a number, and those behind it
+stand_from : (d : Disk) (ks : List AtomAt) (i : ℕ) (x : AtomAt) → i < length ks → StandIn d (drop i ks) → StandIn d (get_or ks i x ∷ drop (i + 1) ks)
+stand_from d ks i x lt s = subst (StandIn d) (next_atom ks i x lt) s
 
 -- what is read past the end
 abbrev none : AtomAt
 none = record { kind = four []; at = 0; body = record { at = 0; len = 0 }; form = Short; next = 0 }
 
-pub follow_next : (end : ℕ) (ks : List AtomAt) (i : ℕ) → i < length ks → (from : ℕ) × AllFollow from (drop i ks) end → (from : ℕ) × AllFollow from (drop (i + 1) ks) end
-follow_next end ks i lt f = let g = follows end ks i none lt f in ((get_or ks i none).next, g.1.1)
+pub stand_next : (d : Disk) (ks : List AtomAt) (i : ℕ) → i < length ks → StandIn d (drop i ks) → StandIn d (drop (i + 1) ks)
+stand_next d ks i lt s =
+    let t = stand_from d ks i none lt s in
+    record { from = (get_or ks i none).next; end = t.end; follow = t.follow.1; inside = t.inside; small = t.small }
 
--- its places
-pub in_order : (end : ℕ) (ks : List AtomAt) (i : ℕ) (d : AtomAt) → i < length ks → (from : ℕ) × AllFollow from (drop i ks) end → InOrder (get_or ks i d).at end (get_or ks i d)
-in_order end ks i d lt f = let g = follows end ks i d lt f in subst (λ (x : ℕ). InOrder x end (get_or ks i d)) (sym g.1.0.begins) g.1.0
+-- atoms that were told by calls that only read
+pub stands_in : (old new : Disk) (from end : ℕ) (ks : List AtomAt) → ReadsOnly old new → Inside end old → end < 2 ^ 63 → AllFollow from ks end → StandIn new ks
+stands_in old new from end ks reads there small follow = record {
+  from = from;
+  end = end;
+  follow = follow;
+  inside = λ b holds. there b (record { tells = subst IsTrue reads.tells holds.tells; bytes = sym (ap bytes_of reads.main) ∙ holds.bytes });
+  small = small;
+}
 
 -- What is told of the atoms so far, and the atoms that are left, of which the first stands at a place.
 pub record KidsLeft (b : List ℕ) (at : ℕ) (all : List Chunk) (rest : List AtomAt) (seen : Bool) (ns : List ℕ) (held : List AtomAt) : Type 0 where

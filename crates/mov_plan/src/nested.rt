@@ -11,8 +11,8 @@ ghost use Rattle.mov_model.specs.Atoms.{format};
 ghost use Rattle.mov_model.specs.Movie.{movie_of};
 ghost use Rattle.mov_model.specs.Reading.{inside_at, kid_steps};
 ghost use Rattle.qt_atoms.specs.Walk.{InOrder, atom_in, level_of, place_after, row};
-ghost use Rattle.mov_plan.specs.Atoms.{AllFollow, AreRow};
-ghost use Rattle.mov_plan.specs.Nested.{IsNext, Meets, counted};
+ghost use Rattle.mov_plan.specs.Atoms.{AreRow};
+ghost use Rattle.mov_plan.specs.Nested.{IsNext, Meets, StandIn, counted};
 ghost use Rattle.mov_plan.specs.Planned.{AreHolders, holds_by};
 ghost use Rattle.mov_plan.specs.Within.{level_in, place_in};
 
@@ -178,11 +178,8 @@ pub fn nested_of<D: Depot>(
     alloc: Global,
     depot: &mut D,
     atoms: &[AtomAt],
-    end: u64,
 ) -> Result<Nested, NestedFault>
-    requires inside { Inside end (D.disk depot.old) }
-    requires small { end < 2 ^ 63 }
-    requires follow { (from : ℕ) × AllFollow from atoms.now end }
+    requires stand { StandIn (D.disk depot.old) atoms.now }
     ensures counts { (b : List ℕ) → Holds (D.disk depot.old) b
         → AreRow b (inside_at (movie_of b)) atoms.now (atoms_in (movie_of b).movie).chunks
         → IfOk result (λ n. n.counts.items ≡ counted false (atoms_in (movie_of b).movie).chunks) }

@@ -1,4 +1,4 @@
-use Rattle.std.proofs.Common.{arith, sym, ap, subst, ◌≡◌, ◌∙◌, ◌+◌, ◌-◌, ℕ, List, length}
+use Rattle.std.proofs.Common.{arith, sym, ap, subst, ◌≡◌, ◌∙◌, ◌+◌, ℕ, List, length}
 use Rattle.std.specs.declared.option.Option.TheVariants.{Some}
 use Rattle.me_disk.proofs.Holds.{holds_on}
 use Rattle.me_disk.proofs.Runs.{ReadsOnly-trans}

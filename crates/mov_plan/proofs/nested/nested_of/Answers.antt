@@ -1,8 +1,8 @@
-use Rattle.std.proofs.Common.{sym, ap, subst, ◌≡◌, ◌∙◌, ◌+◌, drop, Bool}
+use Rattle.std.proofs.Common.{sym, subst, ◌+◌, drop, Bool}
 use Rattle.std.specs.Prelude.{◌||◌}
 use Rattle.me_disk.proofs.Holds.{holds_on}
 use Rattle.me_disk.proofs.Runs.{ReadsOnly-trans}
-use Rattle.mov_plan.proofs.Nesting.{KidsLeft, follow_next, kids_next}
+use Rattle.mov_plan.proofs.Nesting.{KidsLeft, kids_next, stand_next}
 use Rattle.mov_plan.proofs.nested.nested_of.Goals as goal
 
 pub atoms-preserved : goal.atoms-preserved
@@ -11,7 +11,7 @@ atoms-preserved g c =
     let i = c.atoms.atom-index in
     let ks = c.args.atoms.now in
     record {
-      follow = follow_next c.args.end ks i c.atoms-test.true inv.follow;
+      stand = stand_next _ ks i c.atoms-test.true inv.stand;
       reads = ReadsOnly-trans _ _ _ inv.reads c.walk_kid.ensures.reads;
       left = λ b at all holds are.
           let held = holds_on _ _ b inv.reads holds in
