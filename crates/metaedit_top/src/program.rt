@@ -26,10 +26,7 @@ pub fn run_program(rt: HostRuntime) -> u8 {
 
 // The program's name and the words behind it.
 fn arguments<R: Env + AllocGlobal>(rt: &R) -> Result<Vec<String>, StartFault> {
-    let Ok(args) = env::args(rt) else {
-        return Err(StartFault::NoWords);
-    };
-    match args.collect(rt.alloc()) {
+    match env::args(rt)?.collect(rt.alloc()) {
         Ok(args) => Ok(args),
         Err(_) => Err(StartFault::Memory),
     }

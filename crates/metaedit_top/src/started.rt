@@ -13,6 +13,7 @@ use crate::word::Word;
 use me_disk::Sink;
 use part_tree::NoMemory;
 use std::alloc::Global;
+use std::io::{Error, ErrorKind};
 
 /// Why the program can't begin.
 #[derive(Clone, Copy, Debug, PartialEq, Eq)]
@@ -26,6 +27,16 @@ pub enum StartFault {
 impl From<NoMemory> for StartFault {
     fn from(_: NoMemory) -> StartFault {
         StartFault::Memory
+    }
+}
+
+impl From<Error> for StartFault {
+    fn from(fault: Error) -> StartFault {
+        if fault.kind() == ErrorKind::OutOfMemory {
+            StartFault::Memory
+        } else {
+            StartFault::NoWords
+        }
     }
 }
 
