@@ -17,3 +17,17 @@ pub mod Drops
 pub mod Goes
 pub mod Patched
 pub mod Answered
+pub mod Celled
+pub mod Rowed
+pub mod Around
+pub mod Unitled
+pub mod Placing
+pub mod Lastly
+pub mod Grown
+pub mod Streamed
+pub mod Strled
+pub mod Sited
+pub mod Hdrled
+pub mod Nameable
+pub mod Homed
+pub mod NamesDrop
