@@ -2,7 +2,12 @@
 //! stopped after one of its calls, or within it, and then recovered.
 #![tactic(auto)]
 
+#[cfg(test)]
+mod batch_tests;
+mod batches;
 mod files;
+#[cfg(test)]
+mod made_tests;
 mod rows;
 mod runs;
 mod sparse;
@@ -15,6 +20,10 @@ mod tests;
 #[cfg(test)]
 mod writer_tests;
 
+pub use batches::{
+    BatchFile, BatchRan, BatchRow, batch_goes, batch_on, batch_ran, depots_of, tells_ends,
+    tells_stop,
+};
 pub use files::{
     CHECKED, DATED, EMPTY, EMPTY_TITLED, JOURNAL, LARGE, LARGE_TITLED, LOUD, NUMBERED, ODD,
     ODD_TITLED, PLAIN, SHORT, TITLED, TITLES, VERSION_AT, described, with_bext,
