@@ -1,6 +1,6 @@
 // Worked batches.
 use crate::batches::{BatchFile, BatchRow, batch_goes, batch_ran, tells_ends, tells_stop};
-use crate::files::{JOURNAL, PLAIN, SHORT, TITLED};
+use crate::files::{JOURNAL, PLAIN, SHORT, TITLED, WRITTEN_JOURNAL};
 use crate::rows::{Held, Row, goes};
 use crate::stops::{is_recovered, pick_of};
 use me_disk::FailAt;
@@ -137,7 +137,11 @@ fn a_batch_whose_output_fails_has_edited_its_files(rt: HostRuntime) -> Result<()
 }
 
 // The words are refused with this line, and both files are left.
-fn check_words(rt: &(impl Abort + AllocGlobal), words: &[&str], line: &str) -> Result<(), Fail> {
+fn check_words<'x>(
+    rt: &(impl Abort + AllocGlobal),
+    words: &'x [&'x str],
+    line: &'x str,
+) -> Result<(), Fail> {
     let files = [
         BatchFile::leaving(PLAIN, PLAIN),
         BatchFile::leaving(PLAIN, PLAIN),
@@ -211,7 +215,7 @@ fn a_batch_is_no_run_of_one_file(rt: HostRuntime) -> Result<(), Fail> {
 fn four_rounds_leave_each_file_beside_its_journal(rt: HostRuntime) -> Result<(), Fail> {
     let after = Held {
         main: Some(PLAIN),
-        journal: Some(JOURNAL),
+        journal: Some(WRITTEN_JOURNAL),
     };
     let file = BatchFile {
         after,

@@ -26,7 +26,7 @@ pub use batches::{
 };
 pub use files::{
     CHECKED, DATED, EMPTY, EMPTY_TITLED, JOURNAL, LARGE, LARGE_TITLED, LOUD, NUMBERED, ODD,
-    ODD_TITLED, PLAIN, SHORT, TITLED, TITLES, VERSION_AT, described, with_bext,
+    ODD_TITLED, PLAIN, SHORT, TITLED, TITLES, VERSION_AT, WRITTEN_JOURNAL, described, with_bext,
 };
 pub use rows::{Held, Row, goes};
 pub use runs::{Ran, depot_of, holds, paper, run_by, run_on, run_told, words_of};
