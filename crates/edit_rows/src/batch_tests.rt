@@ -33,6 +33,11 @@ const NOTHING: Held<'static> = Held {
     journal: None,
 };
 
+const PLAINLY: Held<'static> = Held {
+    main: Some(PLAIN),
+    journal: None,
+};
+
 // The batch goes as the row says.
 fn check_row(rt: &(impl Abort + AllocGlobal), row: &BatchRow<'_>) -> Result<(), Fail> {
     assert!(rt; batch_goes(rt.alloc(), row, &[])?);
@@ -136,17 +141,18 @@ fn a_batch_whose_output_fails_has_edited_its_files(rt: HostRuntime) -> Result<()
     Ok(())
 }
 
+// A file that is left as it is.
+const SAME: BatchFile<'static> = BatchFile {
+    before: PLAINLY,
+    failing: &[],
+    after: PLAINLY,
+};
+
+const BOTH: &[BatchFile<'static>] = &[SAME, SAME];
+
 // The words are refused with this line, and both files are left.
-fn check_words<'x>(
-    rt: &(impl Abort + AllocGlobal),
-    words: &'x [&'x str],
-    line: &'x str,
-) -> Result<(), Fail> {
-    let files = [
-        BatchFile::leaving(PLAIN, PLAIN),
-        BatchFile::leaving(PLAIN, PLAIN),
-    ];
-    check_row(rt, &BatchRow::words(words, &files, line))
+fn check_words(rt: &(impl Abort + AllocGlobal), words: &[&str], line: &str) -> Result<(), Fail> {
+    check_row(rt, &BatchRow::words(words, BOTH, line))
 }
 
 #[test]
