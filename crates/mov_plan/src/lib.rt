@@ -26,6 +26,8 @@ mod keys;
 mod moves;
 mod named;
 mod nested;
+#[cfg(test)]
+mod nested_tests;
 mod place;
 mod plan;
 mod row;
