@@ -31,3 +31,15 @@ pub mod Hdrled
 pub mod Nameable
 pub mod Homed
 pub mod NamesDrop
+pub mod Beside
+pub mod Numbers
+pub mod Swapped
+pub mod Slid
+pub mod Sums
+pub mod Coming
+pub mod InPlace
+pub mod Laying
+pub mod Counting
+pub mod Parted
+pub mod Entire
+pub mod Listed

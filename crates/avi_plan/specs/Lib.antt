@@ -15,3 +15,4 @@ pub mod Lists
 pub mod Strls
 pub mod NamesAt
 pub mod Streams
+pub mod Row

@@ -25,6 +25,7 @@ ghost use Rattle.avi_plan.specs.Tables.{IsTabled, Tabled, changes_of, tables_in}
 
 mod form;
 mod head;
+mod joined;
 mod list;
 mod misfit;
 mod moves;
@@ -32,6 +33,7 @@ mod names;
 mod patches;
 mod plan;
 mod renumber;
+mod row;
 mod segments;
 #[cfg(test)]
 mod stream_tests;
@@ -49,6 +51,7 @@ pub use moves::moves_between;
 pub use names::NamesAt;
 pub use plan::plan_spans;
 pub use renumber::renumber_all;
+pub use row::plan_row;
 pub use segments::segments_with;
 pub use streams::{StreamName, name_spans};
 pub use table::{Change, TableAt, TableKind};
