@@ -1,7 +1,7 @@
 -- Where `moov` stands, by the parts that a map tells of a file.
 use Rattle.std.proofs.Common.{◌≡◌, ◌∙◌, ◌≢◌, ℕ, suc, ◌+◌, ◌-◌, ◌<◌, ◌≤◌, Bool, true, false, cond, eqb, List, [], ◌∷◌, ◌++◌, length, take, drop, refl, sym, ap, subst, arith, append_assoc, append-nil, eq-eqb}
 use Rattle.std.specs.Prelude.{◌&&◌, codes}
-use Rattle.std.proofs.lemmas.Bool.{eqb-true, ne_eqb}
+use Rattle.std.proofs.lemmas.Bool.{and_parts, eqb-true, ne_eqb}
 use Rattle.std.proofs.lemmas.List.{drop_at, length-append, take_at}
 use Rattle.me_bytes.specs.Bytes.{IsBytes}
 use Rattle.part_tree.specs.Parts.{count_parts, count_role, rest_part, rest_parts}
@@ -294,3 +294,28 @@ module _ (b : List ℕ) (bytes : IsBytes b) (sup : Readable b) where
       let lies = lie_first b moov_end g rest (subst (Lies b moov_end) parts behind_lies) in
       let long : (moov_end + length g) - moov_end ≡ length g = omega arith in
       ap (λ (n : ℕ). take n (drop moov_end b)) long ∙ ap (take (length g)) lies.1 ∙ take_at g lies.0 (length g) refl
+
+  pub tops_many_more : length m.before < length (joined_from 0 (parts_of b))
+  tops_many_more = omega (arith, ap length tops_have, length-append (tops 0 m.before) (part (file_role m.movie) moov_at m.movie ∷ others), tops_many 0 m.before)
+
+  -- it ends in the file, and with it where nothing else stands behind moov
+  gaps_and : length (spell_all m.behind) ≡ length (spell_all (gaps_of m.behind)) + length (spell_all (past_gaps m.behind))
+  gaps_and =
+      ap length (ap spell_all (sym (gaps_split m.behind)) ∙ spell_all-append (gaps_of m.behind) (past_gaps m.behind)) ∙ length-append (spell_all (gaps_of m.behind)) (spell_all (past_gaps m.behind))
+
+  pub ends_inside : moov_end + length (spell_all (gaps_of m.behind)) ≤ length b
+  ends_inside = omega (arith, file_long, gaps_and)
+
+  pub ends_last : gap_count others ≡ length others → moov_end + length (spell_all (gaps_of m.behind)) ≡ length b
+  ends_last all =
+      let none : (is_nil (past_gaps m.behind) && is_nil m.left) ≡ true = sym (last_told tail_at m.left moov_end m.behind) ∙ eq-eqb (gap_count others) (length others) all in
+      let q = and_parts (is_nil (past_gaps m.behind)) (is_nil m.left) none in
+      omega (arith, file_long, gaps_and, ap (λ (cs : List Chunk). length (spell_all cs)) (no_chunks (past_gaps m.behind) q.0), ap length (no_bytes m.left q.1))
+    where
+      no_chunks : (cs : List Chunk) → is_nil cs ≡ true → cs ≡ []
+      no_chunks [] e = refl
+      no_chunks (c ∷ cs) e = absurd cc
+
+      no_bytes : (x : List ℕ) → is_nil x ≡ true → x ≡ []
+      no_bytes [] e = refl
+      no_bytes (y ∷ x) e = absurd cc

@@ -21,7 +21,7 @@ use Rattle.mov_plan.specs.Edits.{beyond_of}
 use Rattle.mov_plan.specs.declared.frame.MoovAt.{MoovAt}
 use Rattle.qt_atoms.specs.Walk.{form_of}
 use Rattle.edit_planner.specs.MoovMap.{before_at, behind_in, gap_count, gap_end, joined_from, kids_end, tops_in}
-use Rattle.edit_planner.proofs.MoovParts.{before_told, behind_told, counts_told, end_told, gaps_lie, gaps_told, last_told, left_long, moov_at, moov_end, others, past_told, tail_at, tops}
+use Rattle.edit_planner.proofs.MoovParts.{before_told, ends_inside, ends_last, tops_many_more, behind_told, counts_told, end_told, gaps_lie, gaps_told, last_told, left_long, moov_at, moov_end, others, past_told, tail_at, tops}
 
 -- what is made of a map, whose atoms of moov end at a byte
 pub record FromMap (map : MovMap) (end : ℕ) (m : MoovAt) : Type 0 where
@@ -41,7 +41,7 @@ nil_eqb : (x : List ℕ) → eqb (length x) 0 ≡ is_nil x
 nil_eqb [] = refl
 nil_eqb (y ∷ x) = ne_eqb (suc (length x)) 0 (λ e. absurd (omega (arith, e)))
 
-module _ (b : List ℕ) (bytes : IsBytes b) (map : MovMap) (known : IsMapOf b map) (end : ℕ) (ends : end ≡ kids_end b) (m : MoovAt) (made : FromMap map end m) where
+module _ (b : List ℕ) (bytes : IsBytes b) (map : MovMap) (known : IsMapOf b map) where
   abbrev sup : Rattle.mov_model.specs.Support.Supported b
   sup = none_supported b known.supported
 
@@ -75,50 +75,65 @@ module _ (b : List ℕ) (bytes : IsBytes b) (map : MovMap) (known : IsMapOf b ma
   count_is : gap_count (behind_in map) ≡ length (gaps_of v.behind)
   count_is = ap gap_count behind_is ∙ gaps_told tail v.left at_end v.behind
 
-  gap_is : m.behind.gap ≡ length (spell_all (gaps_of v.behind))
-  gap_is =
-      let e : gap_end map.moov.next (behind_in map) ≡ at_end + length (spell_all (gaps_of v.behind))
-      = ap (gap_end map.moov.next) behind_is ∙ ap (λ (n : ℕ). gap_end n (others b bytes sup.readable)) next_is ∙ end_told tail v.left at_end v.behind in
-      omega (arith, e, made.gap, next_is)
+  gaps_end : gap_end map.moov.next (behind_in map) ≡ at_end + length (spell_all (gaps_of v.behind))
+  gaps_end = ap (gap_end map.moov.next) behind_is ∙ ap (λ (n : ℕ). gap_end n (others b bytes sup.readable)) next_is ∙ end_told tail v.left at_end v.behind
 
-  left_is : m.left ≡ length (atoms_in v.movie).left
-  left_is = made.left ∙ ap (λ (n : ℕ). n - end) next_is ∙ ap (λ (n : ℕ). at_end - n) ends ∙ left_long b bytes sup.readable
+  -- moov is among them
+  pub moov_there : before_at map.moov.at (tops_in map) < length (tops_in map)
+  moov_there = omega (arith, before_is, ap length tops_is, tops_many_more b bytes sup.readable)
 
-  goes_is : m.behind.goes_on ≡ is_nil (atoms_in v.movie).left
-  goes_is = made.goes_on ∙ ap (λ (n : ℕ). eqb n 0) left_is ∙ nil_eqb (atoms_in v.movie).left
+  pub gaps_low : map.moov.next ≤ gap_end map.moov.next (behind_in map)
+  gaps_low = omega (arith, gaps_end, next_is)
 
-  slot_is : m.behind.goes_on ≡ true → window b m.end (m.end + m.behind.gap) ≡ spell_all (gaps_of v.behind)
-  slot_is on =
-      let none : m.left ≡ 0 = eqb-true m.left 0 (sym made.goes_on ∙ on) in
-      let here : m.end ≡ at_end = omega (arith, none, left_is, left_long b bytes sup.readable, made.end_is, ends, made.left, next_is, known.moov.behind, end_inside) in
-      ap (λ (n : ℕ). window b n (n + m.behind.gap)) here ∙ ap (λ (n : ℕ). window b at_end (at_end + n)) gap_is ∙ gaps_lie b bytes sup.readable
-    where
-      end_inside : kids_end b + length (atoms_in v.movie).left ≡ at_end
-      end_inside = Rattle.edit_planner.proofs.MoovParts.kids_and_left b bytes sup.readable
+  pub gaps_high : gap_end map.moov.next (behind_in map) ≤ map.len
+  gaps_high = omega (arith, gaps_end, known.len, ends_inside b bytes sup.readable)
 
-  past_is : count_parts (drop (gap_count (behind_in map)) (behind_in map)) ≡ length (past_gaps v.behind)
-  past_is =
-      ap (λ (x : List Part). count_parts (drop (gap_count x) x)) behind_is
-      ∙ ap count_parts (past_told tail v.left at_end v.behind)
-      ∙ counts_told tail v.left (at_end + length (spell_all (gaps_of v.behind))) (past_gaps v.behind)
+  pub gaps_last : gap_count (behind_in map) ≡ length (behind_in map) → gap_end map.moov.next (behind_in map) ≡ map.len
+  gaps_last all = omega (arith, gaps_end, known.len, ends_last b bytes sup.readable (ap gap_count (sym behind_is) ∙ all ∙ ap length behind_is))
 
-  pub moov_told : IsMoovOf b m
-  moov_told = record {
-    supported = sup;
-    len = made.len ∙ known.len;
-    at = made.at ∙ place;
-    form = ap form_of made.form ∙ sym (ap (λ (c : Chunk). c.form) known.moov.atom);
-    from = made.from ∙ sym (ap (λ (s : Rattle.part_tree.specs.declared.names.Span.Span). s.at) known.moov.body);
-    end = made.end_is ∙ ends ∙ ap (λ (n : ℕ). n + length (spell_all (atoms_in v.movie).chunks)) (sym (made.from ∙ sym (ap (λ (s : Rattle.part_tree.specs.declared.names.Span.Span). s.at) known.moov.body)));
-    left = left_is;
-    behind = record {
-      goes_on = goes_is;
-      slot = slot_is;
-      gaps = made.gaps ∙ count_is;
-      last = made.last ∙ ap (λ (x : List Part). eqb (gap_count x) (length x)) behind_is ∙ last_told tail v.left at_end v.behind;
-    };
-    others = omega (arith, made.others_are, before_is, past_is);
-  }
+  module _ (end : ℕ) (ends : end ≡ kids_end b) (m : MoovAt) (made : FromMap map end m) where
+    gap_is : m.behind.gap ≡ length (spell_all (gaps_of v.behind))
+    gap_is =
+        omega (arith, gaps_end, made.gap, next_is)
+
+    left_is : m.left ≡ length (atoms_in v.movie).left
+    left_is = made.left ∙ ap (λ (n : ℕ). n - end) next_is ∙ ap (λ (n : ℕ). at_end - n) ends ∙ left_long b bytes sup.readable
+
+    goes_is : m.behind.goes_on ≡ is_nil (atoms_in v.movie).left
+    goes_is = made.goes_on ∙ ap (λ (n : ℕ). eqb n 0) left_is ∙ nil_eqb (atoms_in v.movie).left
+
+    slot_is : m.behind.goes_on ≡ true → window b m.end (m.end + m.behind.gap) ≡ spell_all (gaps_of v.behind)
+    slot_is on =
+        let none : m.left ≡ 0 = eqb-true m.left 0 (sym made.goes_on ∙ on) in
+        let here : m.end ≡ at_end = omega (arith, none, left_is, left_long b bytes sup.readable, made.end_is, ends, made.left, next_is, known.moov.behind, end_inside) in
+        ap (λ (n : ℕ). window b n (n + m.behind.gap)) here ∙ ap (λ (n : ℕ). window b at_end (at_end + n)) gap_is ∙ gaps_lie b bytes sup.readable
+      where
+        end_inside : kids_end b + length (atoms_in v.movie).left ≡ at_end
+        end_inside = Rattle.edit_planner.proofs.MoovParts.kids_and_left b bytes sup.readable
+
+    past_is : count_parts (drop (gap_count (behind_in map)) (behind_in map)) ≡ length (past_gaps v.behind)
+    past_is =
+        ap (λ (x : List Part). count_parts (drop (gap_count x) x)) behind_is
+        ∙ ap count_parts (past_told tail v.left at_end v.behind)
+        ∙ counts_told tail v.left (at_end + length (spell_all (gaps_of v.behind))) (past_gaps v.behind)
+
+    pub moov_told : IsMoovOf b m
+    moov_told = record {
+      supported = sup;
+      len = made.len ∙ known.len;
+      at = made.at ∙ place;
+      form = ap form_of made.form ∙ sym (ap (λ (c : Chunk). c.form) known.moov.atom);
+      from = made.from ∙ sym (ap (λ (s : Rattle.part_tree.specs.declared.names.Span.Span). s.at) known.moov.body);
+      end = made.end_is ∙ ends ∙ ap (λ (n : ℕ). n + length (spell_all (atoms_in v.movie).chunks)) (sym (made.from ∙ sym (ap (λ (s : Rattle.part_tree.specs.declared.names.Span.Span). s.at) known.moov.body)));
+      left = left_is;
+      behind = record {
+        goes_on = goes_is;
+        slot = slot_is;
+        gaps = made.gaps ∙ count_is;
+        last = made.last ∙ ap (λ (x : List Part). eqb (gap_count x) (length x)) behind_is ∙ last_told tail v.left at_end v.behind;
+      };
+      others = omega (arith, made.others_are, before_is, past_is);
+    }
 
 -- the parts behind moov, as they are taken from those of the file
 pub slice_is : (map : MovMap) (ps top : List Part) (n : ℕ) → ps ≡ map.parts.items → top ≡ joined_from 0 ps → n ≡ before_at map.moov.at top → take (length top - (n + 1)) (drop (n + 1) top) ≡ behind_in map

@@ -1,5 +1,5 @@
 // Where `moov` stands in a movie, by the map of the file.
-ghost use Rattle.std.specs.Prelude.{◌≡◌, ◌≤◌, ◌+◌, ◌==◌, ℕ, List, length, drop, true, IfSome};
+ghost use Rattle.std.specs.Prelude.{◌≡◌, ◌≢◌, ◌≤◌, ◌+◌, ◌==◌, ℕ, List, length, drop, true, IfSome, None};
 ghost use Rattle.me_bytes.specs.Bytes.{IsBytes};
 ghost use Rattle.part_tree.specs.Parts.{count_parts, count_role};
 ghost use Rattle.mov_file.specs.Map.{IsMapOf, IsSound};
@@ -106,6 +106,8 @@ fn behind_of(parts: &[Part], next: u64, goes_on: bool, len: u64) -> Option<Follo
     ensures few { IfSome result (λ a. a.atoms ≤ length parts.now) }
     ensures inside { IfSome result (λ a. next + a.behind.gap ≤ len) }
     ensures ends { IfSome result (λ a. a.behind.last ≡ true → next + a.behind.gap ≡ len) }
+    ensures found { next ≤ gap_end next parts.now → gap_end next parts.now ≤ len
+        → (gap_count parts.now ≡ length parts.now → gap_end next parts.now ≡ len) → result ≢ None }
 {
     let (gaps, end) = gaps_in(parts, next);
     let Some(gap) = end.checked_sub(next) else {
@@ -136,6 +138,7 @@ pub fn moov_at(map: &MovMap, end: u64) -> Option<MoovAt>
     requires order { map.now.moov.body.at ≤ end }
     requires inside { end ≤ map.now.moov.next }
     ensures moov { (b : List ℕ) → IsBytes b → IsMapOf b map.now → end ≡ kids_end b → IfSome result (IsMoovOf b) }
+    ensures found { (b : List ℕ) → IsBytes b → IsMapOf b map.now → result ≢ None }
     ensures sound { IfSome result IsSoundMoov }
     ensures from { IfSome result (λ m. m.from ≡ map.now.moov.body.at) }
     ensures end { IfSome result (λ m. m.end ≡ end) }
