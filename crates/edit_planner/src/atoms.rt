@@ -47,11 +47,7 @@ pub fn end_of(atoms: &[AtomAt], from: u64) -> u64
 }
 
 /// The places of atoms before an edit, each with the number of atoms that is counted for it. No memory holds fewer numbers than atoms.
-pub fn places_with(
-    alloc: Global,
-    atoms: &[AtomAt],
-    counts: &[u64],
-) -> Result<Vec<Place>, NoMemory>
+pub fn places_with(alloc: Global, atoms: &[AtomAt], counts: &[u64]) -> Result<Vec<Place>, NoMemory>
     ensures places { IfOk result (λ ps. ps.items ≡ placed_by atoms.now counts.now) }
     ensures many { IfOk result (λ ps. length counts.now ≡ length atoms.now) }
 {

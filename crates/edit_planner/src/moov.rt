@@ -150,9 +150,12 @@ pub fn moov_at(map: &MovMap, end: u64) -> Option<MoovAt>
         return None;
     }
     let left = map.moov.next - end;
-    let Some(Followed { behind, atoms }) =
-        behind_of(&top[before + 1..], map.moov.next, left == 0, map.len)
-    else {
+    let Some(Followed { behind, atoms }) = behind_of(
+        &top[before + 1..],
+        map.moov.next,
+        left == 0,
+        map.len,
+    ) else {
         return None;
     };
     Some(MoovAt {
