@@ -43,7 +43,6 @@ model_in o = model_of (kind_at o)
 
 -- why files of a kind aren't edited yet, though they are read
 abbrev pub unbuilt : Option Kind → Option Why
-unbuilt (Some Avi) = Some NotBuilt
 unbuilt (Some Mov) = Some NotBuilt
 unbuilt _ = None
 

@@ -6,17 +6,22 @@ ghost use Rattle.std.specs.Prelude.{ℕ, List};
 ghost use Rattle.field_model.specs.Kind.{IsKind};
 ghost use Rattle.edit_planner.specs.Kinds.{model_in};
 
+mod avi;
+mod avi_plans;
 mod bext;
 mod cells;
 mod edit;
 mod facts;
+mod head;
 mod kinds;
 mod lists;
 mod load;
 mod places;
 mod plans;
+mod tables;
 #[cfg(test)]
 mod tests;
+mod tops;
 mod wave;
 mod wholes;
 
