@@ -14,3 +14,6 @@ pub mod Formed
 pub mod OfKind
 pub mod MapTells
 pub mod Widens
+pub mod AviTops
+pub mod AviRow
+pub mod AviLoops

@@ -1,30 +1,19 @@
--- The places of an edit of an AVI file.
-use Rattle.std.specs.Prelude.{◌≡◌, ◌≤◌, ◌<◌, ◌^◌, ℕ, ◌+◌, List, [], ◌∷◌, length, map, Bool, Some, None, Result, Vec, if◌then◌else◌}
-use Rattle.std.specs.Global.{Global}
-use Rattle.std.specs.declared.result.Result.TheVariants.{Ok, Err}
+-- The first form of an AVI file as a planner knows it, and what an edit of lists makes of its cells (this project's own).
+use Rattle.std.specs.Prelude.{◌≡◌, ◌≤◌, ◌<◌, ℕ, ◌+◌, List, length, map, Bool, Some, if◌then◌else◌}
 use Rattle.std.specs.List.{flat_map, AllByRecursion}
-use Rattle.part_tree.specs.Large.{Size, first_above, limited}
 use Rattle.part_tree.specs.Letters.{four}
 use Rattle.part_tree.specs.declared.part.Role.TheVariants.{Opaque}
-use Rattle.part_tree.specs.declared.plan.PlanFault.{PlanFault}
-use Rattle.part_tree.specs.declared.plan.PlanFault.TheVariants as plan
-use Rattle.field_model.specs.Update.{RawItem}
 use Rattle.container_model.specs.Chunk.{Chunk}
-use Rattle.container_model.specs.Units.{Cell}
+use Rattle.container_model.specs.Units.{Cell, live}
 use Rattle.carrier_model.specs.Info.{info, info_items}
 use Rattle.carrier_model.specs.Lists.{edit_list_cells, edit_lists}
-use Rattle.unit_plan.specs.Places.{shape_in}
-use Rattle.unit_plan.specs.declared.place.Place.{Place}
 use Rattle.avi_model.specs.Avi.{avi_of}
-use Rattle.avi_model.specs.After.{name_item}
-use Rattle.avi_model.specs.Named.{Names, cell_of}
+use Rattle.avi_model.specs.Named.{cell_of}
 use Rattle.avi_model.specs.NewFile.{Items, home}
-use Rattle.avi_plan.specs.Comes.{told_row}
 use Rattle.avi_plan.specs.Form.{IsFormOf, IsSoundForm}
 use Rattle.wave_file.specs.Map.{Ascend}
-use Rattle.wave_model.specs.Fields.{bodies, is_info}
+use Rattle.wave_model.specs.Fields.{is_info}
 use Rattle.edit_planner.specs.Cells.{list_in, told_row_by}
-use Rattle.edit_planner.specs.Lists.{lengths}
 use Rattle.edit_planner.specs.Row.{with_pad}
 use Rattle.edit_planner.specs.Stand.{parts_from}
 use Rattle.edit_planner.specs.Tops.{IsRiff, StandsIn, avi_role, head_from}
@@ -33,8 +22,6 @@ use Rattle.edit_planner.specs.declared.cells.CellAt.{CellAt}
 use Rattle.edit_planner.specs.declared.head.Head.{Head}
 use Rattle.edit_planner.specs.declared.cells.Content.{Content}
 use Rattle.edit_planner.specs.declared.cells.Content.TheVariants.{Kept, Listed}
-use Rattle.edit_planner.specs.declared.wave.PlaceFault.{PlaceFault}
-use Rattle.edit_planner.specs.declared.wave.PlaceFault.TheVariants.{TooLarge, Depot, Memory}
 
 -- ---- the first form
 
@@ -62,50 +49,15 @@ avi_held at c = if is_info c then Listed (list_in c) else Kept (four c.id) Opaqu
 abbrev pub avi_cells : List Chunk → List Cell
 avi_cells cs = map cell_of cs
 
--- those after an edit of lists, and the chunks that stand then
+-- those after an edit of lists, and the chunks that stand then, without padding
 abbrev pub cells_after : Items → List Chunk → List Cell
 cells_after e cs = edit_list_cells info info_items home e (avi_cells cs)
 
 abbrev pub lists_after : Items → List Chunk → List Chunk
-lists_after e cs = edit_lists info info_items home e cs
+lists_after e cs = edit_lists info info_items home e (flat_map live (avi_cells cs))
 
 -- the row of some chunks, of which that of a number is the first `hdrl`, after an edit of lists
 abbrev pub EditsLists : List Chunk → ℕ → Bool → Items → List CellAt → List CellAt → Type 0
 EditsLists cs k lacks e old new =
     (h : Head) → head_from 0 12 cs ≡ Some h → h.number ≡ k → AllByRecursion IsRiff cs → old ≡ told_row_by avi_held 12 (avi_cells cs)
     → new ≡ with_pad lacks k (told_row_by avi_held 12 (cells_after e cs))
-
--- ---- the places
-
--- the lengths of the lists of INFO items then
-abbrev pub avi_sizes : List ℕ → Items → List Size
-avi_sizes b e = lengths (bodies is_info (lists_after e (avi_of b).children))
-
--- the places of an edit, where no list is too long, or the first list that is
-abbrev pub PlacesLists : List ℕ → Bool → Items → Result (Vec Place Global) PlaceFault → Type 0
-PlacesLists b lacks e (Ok places) =
-    (map (shape_in b) places.items ≡ told_row lacks (cells_after e (avi_of b).children)) × (first_above (avi_sizes b e) ≡ None)
-PlacesLists b lacks e (Err (TooLarge size)) = first_above (avi_sizes b e) ≡ Some (limited (2 ^ 24) size)
-PlacesLists b lacks e (Err Depot) = Unit {0}
-PlacesLists b lacks e (Err Memory) = Unit {0}
-
--- ---- names
-
--- what items do to the names of streams
-abbrev pub names_in : List RawItem → Names
-names_in e = flat_map (λ (i : RawItem). name_item i.name i.value) e
-
--- ---- a plan
-
--- why an edit has no plan, where it has no places
-abbrev pub no_place : PlaceFault → PlanFault
-no_place (TooLarge size) = plan.TooLarge size (2 ^ 24)
-no_place Depot = plan.Depot
-no_place Memory = plan.Memory
-
--- nothing is told to be too large
-abbrev pub NeverTooLarge : {T : Type 0} → Result T PlanFault → Type 0
-NeverTooLarge (Ok x) = Unit {0}
-NeverTooLarge (Err (plan.TooLarge size limit)) = ⊥
-NeverTooLarge (Err plan.Depot) = Unit {0}
-NeverTooLarge (Err plan.Memory) = Unit {0}

@@ -9,3 +9,5 @@ pub mod Facts
 pub mod Tops
 pub mod TablesAt
 pub mod Avi
+pub mod HdrlRow
+pub mod AviPlaces

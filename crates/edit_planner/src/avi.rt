@@ -1,10 +1,12 @@
 // The places of an edit of an AVI file: where its first form stands, and what is to stand in it.
-ghost use Rattle.std.specs.Prelude.{◌≡◌, ◌≤◌, ◌<◌, ◌++◌, ◌^◌, ℕ, List, IfOk, OnOk, length, map};
+ghost use Rattle.std.specs.Prelude.{◌≡◌, ◌<◌, ℕ, List, IfOk, OnOk, length};
+ghost use Rattle.std.specs.List.{flat_map};
 ghost use Rattle.me_bytes.specs.Bytes.{IsBytes};
 ghost use Rattle.me_disk.specs.Causes.{Rose};
 ghost use Rattle.me_disk.specs.Holds.{Holds, Inside};
 ghost use Rattle.me_disk.specs.Steps.{ReadsOnly};
 ghost use Rattle.container_model.specs.Chunk.{Chunk};
+ghost use Rattle.container_model.specs.Units.{live};
 ghost use Rattle.unit_plan.specs.Places.{Follow as PlacesFollow};
 ghost use Rattle.bext_fields.specs.Change.{raw_items_of};
 ghost use Rattle.avi_file.specs.Map.{IsMapOf, IsSound};
@@ -12,7 +14,8 @@ ghost use Rattle.avi_model.specs.Edited.{info_edit};
 ghost use Rattle.wave_model.specs.Fields.{bodies, is_info};
 ghost use Rattle.edit_planner.specs.Cells.{AreReadable, Follow, told_row_by};
 ghost use Rattle.edit_planner.specs.Lists.{SmallLists, TellsLarge, lengths};
-ghost use Rattle.edit_planner.specs.Avi.{EditsLists, PlacesLists, SoundForm, TellsForm, avi_cells, avi_held, lists_after};
+ghost use Rattle.edit_planner.specs.Avi.{EditsLists, SoundForm, TellsForm, avi_cells, avi_held, lists_after};
+ghost use Rattle.edit_planner.specs.AviPlaces.{PlacesLists};
 
 use crate::cells::{CellAt, put_behind, set_pad};
 use crate::head::{Head, head_of};
@@ -90,7 +93,8 @@ fn edit_row(
     requires head { head < length cells.old.items }
     ensures told { OnOk result ((cs : List Chunk) → EditsLists cs head lacks_pad (info_edit (raw_items_of changes.now))
         cells.old.items cells.new.items) }
-    ensures large { (cs : List Chunk) → SmallLists cs → cells.old.items ≡ told_row_by avi_held 12 (avi_cells cs)
+    ensures large { (cs : List Chunk) → SmallLists (flat_map live (avi_cells cs))
+        → cells.old.items ≡ told_row_by avi_held 12 (avi_cells cs)
         → TellsLarge (lengths (bodies is_info (lists_after (info_edit (raw_items_of changes.now)) cs))) result }
     ensures follow { OnOk result ((from end : ℕ) → Follow from cells.old.items end
         → Follow from cells.new.items end) }

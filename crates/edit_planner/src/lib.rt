@@ -7,7 +7,6 @@ ghost use Rattle.field_model.specs.Kind.{IsKind};
 ghost use Rattle.edit_planner.specs.Kinds.{model_in};
 
 mod avi;
-mod avi_plans;
 mod bext;
 mod cells;
 mod edit;

@@ -1,5 +1,5 @@
 // The chunks of the first form of an AVI file, among all parts of the file.
-ghost use Rattle.std.specs.Prelude.{◌≡◌, ◌≤◌, ◌<◌, ◌+◌, ◌∷◌, ◌++◌, ◌^◌, ℕ, List, IfOk, IfSome, OnOk, false, true};
+ghost use Rattle.std.specs.Prelude.{◌≡◌, ◌≤◌, ◌<◌, ◌+◌, ◌∷◌, ◌++◌, ◌^◌, [], ℕ, List, IfOk, IfSome, OnOk, false, true};
 ghost use Rattle.part_tree.specs.declared.part.Part.{Part};
 ghost use Rattle.avi_plan.specs.Form.{IsSoundForm};
 ghost use Rattle.wave_file.specs.Map.{Ascend};
@@ -122,7 +122,8 @@ impl Tops {
         ensures end { OnOk result (self.old.at ≤ end → self.new.at ≤ end) }
     {
         if begins(part, self.at) {
-            return self.push(part, end);
+            self.push(part, end)?;
+            return Ok(());
         }
         if !stands_apart(part, self.at, self.listed) {
             return Ok(());

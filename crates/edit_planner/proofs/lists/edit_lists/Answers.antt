@@ -28,18 +28,18 @@ returns-in-Ok-None-clause-large c = λ xs u small e. c.in-Ok-None.ensures.large 
 pub returns-in-Ok-None-clause-follow : goal.returns-in-Ok-None-clause-follow
 returns-in-Ok-None-clause-follow c = λ end h. c.in-Ok-None.ensures.follow c.args.from end h
 
-pub returns-clause-told : goal.returns-clause-told
-returns-clause-told c = λ xs u e.
+pub returns-in-Ok-clause-told : goal.returns-in-Ok-clause-told
+returns-in-Ok-clause-told c = λ xs u e.
     let f = info_part (raw_items_of c.args.changes.now) in
     let h : Edits content_of never c.args.from f xs c.change_or_new.new.cells.items (Some c.in-Ok-Some.content) =
     rw c.in-Ok-Some.field-0-is at (c.in-Ok-Some.ensures.edits content_of never c.args.from xs wave_holds u e)
     in
     c.in-Ok-put_cell.ensures ∙ list_last f c.args.from xs c.change_or_new.new.cells.items c.in-Ok-Some.content h
 
-pub returns-clause-large : goal.returns-clause-large
-returns-clause-large c = λ xs u small e. c.in-Ok-Some.ensures.large content_of never c.args.from xs wave_holds u small e
+pub returns-in-Ok-clause-large : goal.returns-in-Ok-clause-large
+returns-in-Ok-clause-large c = λ xs u small e. c.in-Ok-Some.ensures.large content_of never c.args.from xs wave_holds u small e
 
-pub returns-clause-follow : goal.returns-clause-follow
-returns-clause-follow c = λ end h.
+pub returns-in-Ok-clause-follow : goal.returns-in-Ok-clause-follow
+returns-in-Ok-clause-follow c = λ end h.
     put_follows_on false c.in-Ok-Some.content c.args.from c.change_or_new.new.cells.items c.put_cell.new.cells.items end c.in-Ok-put_cell.ensures
     (c.in-Ok-Some.ensures.follow c.args.from end h)
