@@ -240,6 +240,11 @@ with_pad_is l (suc k) (x ∷ xs) d lt = ap (λ (ys : List CellAt). x ∷ ys) (wi
 
 -- ---- whatever the file
 
+pub pad_long : (l : Bool) (k : ℕ) (xs : List CellAt) → length (with_pad l k xs) ≡ length xs
+pad_long l k [] = refl
+pad_long l zero (x ∷ xs) = refl
+pad_long l (suc k) (x ∷ xs) = ap suc (pad_long l k xs)
+
 pub pad_follows : (l : Bool) (k at : ℕ) (xs : List CellAt) (end : ℕ) → Follow at xs end → Follow at (with_pad l k xs) end
 pad_follows l k at [] end h = h
 pad_follows l zero at (x ∷ xs) end h = h

@@ -91,7 +91,7 @@ rest_apart l at p (x ∷ b) = refl
 -- ---- what stands in a chunk
 
 -- as many bytes are read as there are
-run_long : (x : List ℕ) → length (spell_all (chunks riff_front plain x).chunks) + length (chunks riff_front plain x).left ≡ length x
+pub run_long : (x : List ℕ) → length (spell_all (chunks riff_front plain x).chunks) + length (chunks riff_front plain x).left ≡ length x
 run_long x =
     let whole : slice x 0 (length x) ≡ x = take_all (length x) x (omega arith) in
     subst (λ (y : List ℕ). length (spell_all (chunks riff_front plain y).chunks) + length (chunks riff_front plain y).left ≡ length y) whole (row_length x 0 (length x))

@@ -17,3 +17,8 @@ pub mod Widens
 pub mod AviTops
 pub mod AviRow
 pub mod AviLoops
+pub mod AviForms
+pub mod AviPlaced
+pub mod AviTables
+pub mod AviReady
+pub mod StubListed

@@ -201,7 +201,7 @@ pub record Stays (held : ℕ → Chunk → Content) : Type 0 where
 wave_stays : Stays content_of
 wave_stays = record { parts = kept_parts; what = kept_what }
 
-one_shape : (held : ℕ → Chunk → Content) → Stays held → (b x y : List ℕ) (at : ℕ) (cell : Cell) → b ≡ x ++ (spell_all (was cell) ++ y) → length x ≡ at → Gaps (λ c. is_info c ≡ false) (cell ∷ []) → shape_in b (placed (told_by held at cell)) ≡ shape_of part_count cell
+pub one_shape : (held : ℕ → Chunk → Content) → Stays held → (b x y : List ℕ) (at : ℕ) (cell : Cell) → b ≡ x ++ (spell_all (was cell) ++ y) → length x ≡ at → Gaps (λ c. is_info c ≡ false) (cell ∷ []) → shape_in b (placed (told_by held at cell)) ≡ shape_of part_count cell
 one_shape held k b x y at (kept c) e l g =
     let n : (at + length (spell c)) - at ≡ length (spell c) = omega arith in
     ap (Rattle.unit_plan.specs.Places.shape_by (window b at (at + length (spell c))) ((at + length (spell c)) - at) (lacks_pad c) (count_of (held at c))) (k.what at c)
@@ -213,7 +213,7 @@ one_shape held k b x y at (gap c) e l g =
 one_shape held k b x y at (edited old now) e l g =
     ap (λ (o : List ℕ). changes o (spell_all now) (parts_in part_count now)) (ap (λ (z : List ℕ). window z at (at + length (spell_all old))) e ∙ bytes_at x (spell_all old) y at l)
 
-spell_both : (a c : List Chunk) → spell_all (a ++ c) ≡ spell_all a ++ spell_all c
+pub spell_both : (a c : List Chunk) → spell_all (a ++ c) ≡ spell_all a ++ spell_all c
 spell_both [] c = refl
 spell_both (x ∷ a) c = ap (λ (z : List ℕ). spell x ++ z) (spell_both a c) ∙ sym (append_assoc (spell x) (spell_all a) (spell_all c))
 

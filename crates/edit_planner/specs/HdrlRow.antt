@@ -9,6 +9,6 @@ use Rattle.edit_planner.specs.Cells.{part_count}
 abbrev pub told_row : Bool → List Cell → List Shape
 told_row lacks [] = []
 told_row lacks (kept c ∷ xs) =
-    if is_hdrl c then stays (length (spell c)) lacks 1 ∷ map (shape_of part_count) xs else shape_of part_count (kept c) ∷ told_row lacks xs
+    if is_hdrl c then stays (length (spell c)) lacks (part_count c) ∷ map (shape_of part_count) xs else shape_of part_count (kept c) ∷ told_row lacks xs
 told_row lacks (gap c ∷ xs) = shape_of part_count (gap c) ∷ told_row lacks xs
 told_row lacks (edited old now ∷ xs) = shape_of part_count (edited old now) ∷ told_row lacks xs

@@ -11,3 +11,4 @@ pub mod TablesAt
 pub mod Avi
 pub mod HdrlRow
 pub mod AviPlaces
+pub mod Stub

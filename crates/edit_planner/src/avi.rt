@@ -49,7 +49,7 @@ pub fn read_form<D: Depot>(
 ) -> Result<AviForm, LoadFault>
     requires mapped { (b : List ℕ) → Holds (D.disk depot.old) b → IsMapOf b map.now }
     requires sound { IsSound map.now }
-    ensures tells { (b : List ℕ) → Holds (D.disk depot.old) b → IsBytes b → IfOk result (λ f. TellsForm b f) }
+    ensures tells { (b : List ℕ) → Holds (D.disk depot.old) b → IfOk result (λ f. TellsForm b f) }
     ensures sound { IfOk result (λ f. SoundForm f) }
     ensures len { IfOk result (λ f. f.form.len ≡ map.now.len) }
     ensures reads { ReadsOnly (D.disk depot.old) (D.disk depot.new) }
@@ -62,20 +62,21 @@ pub fn read_form<D: Depot>(
         Err(_) => return Err(LoadFault::Memory),
         Ok(tops) => tops,
     };
-    let head = match head_of(depot, &tops.parts, 12, tops.at) {
-        Err(_) => return Err(LoadFault::Depot),
-        Ok(None) => return Err(LoadFault::Memory),
-        Ok(Some(head)) => head,
-    };
+    let end = tops.at;
     let form = FormAt {
         len: map.len,
         size,
         others: tops.others,
     };
+    let head = match head_of(depot, &tops.parts, 12, end) {
+        Err(_) => return Err(LoadFault::Depot),
+        Ok(None) => return Err(LoadFault::Memory),
+        Ok(Some(head)) => head,
+    };
     Ok(AviForm {
         form,
         chunks: tops.parts,
-        end: tops.at,
+        end,
         head,
     })
 }
@@ -104,8 +105,9 @@ fn edit_row(
         Ok(new) => new,
     };
     set_pad(cells, head, lacks_pad);
-    let Some(content) = new else {
-        return Ok(());
+    let content = match new {
+        None => return Ok(()),
+        Some(content) => content,
     };
     match put_behind(cells, head, content) {
         Err(_) => Err(ListsFault::Memory),

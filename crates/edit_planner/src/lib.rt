@@ -7,6 +7,7 @@ ghost use Rattle.field_model.specs.Kind.{IsKind};
 ghost use Rattle.edit_planner.specs.Kinds.{model_in};
 
 mod avi;
+mod avi_plans;
 mod bext;
 mod cells;
 mod edit;
@@ -17,6 +18,7 @@ mod lists;
 mod load;
 mod places;
 mod plans;
+mod stub;
 mod tables;
 #[cfg(test)]
 mod tests;

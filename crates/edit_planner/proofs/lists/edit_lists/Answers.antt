@@ -1,4 +1,4 @@
-use Rattle.std.proofs.Common.{◌∙◌, ◌≡◌, sym, ap, rules}
+use Rattle.std.proofs.Common.{◌∙◌, ◌≡◌, false, sym, ap}
 use Rattle.std.specs.Prelude.{Option, Some, None}
 use Rattle.bext_fields.specs.Change.{raw_items_of}
 use Rattle.carrier_model.specs.Cells.{never}
@@ -34,12 +34,12 @@ returns-in-Ok-clause-told c = λ xs u e.
     let h : Edits content_of never c.args.from f xs c.change_or_new.new.cells.items (Some c.in-Ok-Some.content) =
     rw c.in-Ok-Some.field-0-is at (c.in-Ok-Some.ensures.edits content_of never c.args.from xs wave_holds u e)
     in
-    c.in-Ok-put_cell.ensures ∙ list_last f c.args.from xs c.change_or_new.new.cells.items c.in-Ok-Some.content h
+    c.in-Ok.ensures ∙ list_last f c.args.from xs c.change_or_new.new.cells.items c.in-Ok-Some.content h
 
 pub returns-in-Ok-clause-large : goal.returns-in-Ok-clause-large
 returns-in-Ok-clause-large c = λ xs u small e. c.in-Ok-Some.ensures.large content_of never c.args.from xs wave_holds u small e
 
 pub returns-in-Ok-clause-follow : goal.returns-in-Ok-clause-follow
 returns-in-Ok-clause-follow c = λ end h.
-    put_follows_on false c.in-Ok-Some.content c.args.from c.change_or_new.new.cells.items c.put_cell.new.cells.items end c.in-Ok-put_cell.ensures
+    put_follows_on false c.in-Ok-Some.content c.args.from c.change_or_new.new.cells.items c.put_cell.new.cells.items end c.in-Ok.ensures
     (c.in-Ok-Some.ensures.follow c.args.from end h)

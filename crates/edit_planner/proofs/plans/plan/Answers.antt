@@ -1,13 +1,21 @@
 use Rattle.std.proofs.Common.{rules, subst}
 use Rattle.field_model.specs.KindReads.{PlansKind}
 use Rattle.edit_planner.specs.Plan.{Maps}
-use Rattle.edit_planner.proofs.OfKind.{of_wave, is_read}
+use Rattle.edit_planner.proofs.OfKind.{avi_is_read, of_avi, of_wave, is_read}
 use Rattle.edit_planner.proofs.plans.plan.Goals as goal
 
 pub plan_wave-requires-clause-mapped : goal.plan_wave-requires-clause-mapped
 plan_wave-requires-clause-mapped g c = λ b holds. let h : Maps b c.args.file.now = c.requires.mapped b holds in search rules
 
-pub returns-clause-plans : goal.returns-clause-plans
-returns-clause-plans g c = λ b holds bytes.
+pub plan_avi-requires-clause-mapped : goal.plan_avi-requires-clause-mapped
+plan_avi-requires-clause-mapped g c = λ b holds. let h : Maps b c.args.file.now = c.requires.mapped b holds in search rules
+
+pub returns-in-Avi-clause-plans : goal.returns-in-Avi-clause-plans
+returns-in-Avi-clause-plans g c = λ b holds bytes.
+    let mapped = subst (Maps b) c.in-Avi.is (c.requires.mapped b holds) in
+    of_avi (λ k. PlansKind k b c.args.edit.now c.plan_avi.result) b (avi_is_read b mapped.supported) (c.plan_avi.ensures.plans b holds bytes)
+
+pub returns-in-Wave-clause-plans : goal.returns-in-Wave-clause-plans
+returns-in-Wave-clause-plans g c = λ b holds bytes.
     let mapped = subst (Maps b) c.in-Wave.is (c.requires.mapped b holds) in
     of_wave (λ k. PlansKind k b c.args.edit.now c.plan_wave.result) b (is_read b mapped.supported) (c.plan_wave.ensures.plans b holds bytes)
