@@ -94,7 +94,7 @@ unedited_unmet p (edited old now ∷ xs) u = absurd u
 abbrev change : List RawItem → ℕ → Chunk → Change
 change e n c = become (made (codes "bext") (edited_bext e c.body) ∷ [])
 
-bext_fits : (e : List RawItem) → Fits is_bext (change e) is_body (λ n x. body_edited e x)
+bext_fits : (e : List RawItem) → Fits content_of is_bext (change e) is_body (λ n x. body_edited e x)
 bext_fits e = record {
   met = body_told;
   gaps = refl;
@@ -118,9 +118,9 @@ pub bodies_changed : (e : List RawItem) (from : ℕ) (xs : List Cell) (ys : List
 bodies_changed e from xs ys edits u is some =
     let unmet = unedited_unmet is_bext xs u in
     ap (changed_row is_body (λ n x. body_edited e x) 0) is
-    ∙ sym (settled is_bext (change e) is_body (λ n x. body_edited e x) (bext_fits e) 0 from xs unmet)
+    ∙ sym (settled content_of is_bext (change e) is_body (λ n x. body_edited e x) (bext_fits e) 0 from xs unmet)
     ∙ go (edits_bext e) (some_chunk is_bext (flat_map live xs)) edits
-    (some_told is_bext (change e) is_body (λ n x. body_edited e x) (bext_fits e) from xs unmet ∙ ap (λ (zs : List CellAt). nat_lt 0 (count_row is_body zs)) (sym is) ∙ lt-ltb 0 (count_row is_body ys) some)
+    (some_told content_of is_bext (change e) is_body (λ n x. body_edited e x) (bext_fits e) from xs unmet ∙ ap (λ (zs : List CellAt). nat_lt 0 (count_row is_body zs)) (sym is) ∙ lt-ltb 0 (count_row is_body ys) some)
   where
     go : (t u : Bool) → t ≡ true → u ≡ true → told_row from (settle_cells is_bext (change e) 0 xs) ≡ told_row from (acted_cells (bext_by e t u) xs)
     go true true i j = refl
@@ -135,7 +135,7 @@ body_new e from xs ys zs now edits u is none c i =
     ∙ ap (put_new true (fresh_at (made (codes "bext") (edited_bext e new_body))) from) (c ∙ none_changed is_body (λ n x. body_edited e x) 0 ys none ∙ is)
     ∙ sym (inserted before is_format_chunk true (made (codes "bext") (edited_bext e new_body)) format_puts from xs (unedited_unmet (meets is_format_chunk) xs u))
     ∙ go (edits_bext e) (some_chunk is_bext (flat_map live xs)) edits
-    (some_told is_bext (change e) is_body (λ n x. body_edited e x) (bext_fits e) from xs (unedited_unmet is_bext xs u) ∙ ap (λ (zs : List CellAt). nat_lt 0 (count_row is_body zs)) (sym is) ∙ ap (nat_lt 0) none)
+    (some_told content_of is_bext (change e) is_body (λ n x. body_edited e x) (bext_fits e) from xs (unedited_unmet is_bext xs u) ∙ ap (λ (zs : List CellAt). nat_lt 0 (count_row is_body zs)) (sym is) ∙ ap (nat_lt 0) none)
   where
     go : (t u : Bool) → t ≡ true → u ≡ false → told_row from (insert_cell before is_format_chunk (made (codes "bext") (edited_bext e new_body)) xs) ≡ told_row from (acted_cells (bext_by e t u) xs)
     go true true i j = absurd cc

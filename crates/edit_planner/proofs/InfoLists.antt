@@ -1,7 +1,7 @@
 -- The lists of INFO items in a row of cells.
 use Rattle.std.proofs.Common.{◌≡◌, ◌∙◌, ◌<◌, ◌≤◌, ℕ, suc, ◌+◌, ◌-◌, ◌^◌, drop, min, Bool, true, false, List, [], ◌∷◌, ◌++◌, length, map, refl, sym, ap, arith, subst}
-use Rattle.std.specs.Prelude.{Option, Some, None, if◌then◌else◌, nat_lt, codes, ◌||◌, ◌==◌, option_map}
-use Rattle.std.specs.declared.result.Result.TheVariants.{Err}
+use Rattle.std.specs.Prelude.{Option, Result, Some, None, IfOk, if◌then◌else◌, nat_lt, codes, ◌||◌, ◌==◌, option_map}
+use Rattle.std.specs.declared.result.Result.TheVariants.{Ok, Err}
 use Rattle.std.specs.List.{flat_map, list_any, AllByRecursion}
 use Rattle.std.proofs.lemmas.List.{append-nil, length-map}
 use Rattle.std.proofs.lemmas.Bool.{lt-ltb, le-ltb}
@@ -19,7 +19,7 @@ use Rattle.container_model.specs.Deep.{Token}
 use Rattle.container_model.specs.Items.{Item, item_token, has_mark, put_all, edit_carrier}
 use Rattle.container_model.proofs.Items.{MakesGood, all_after}
 use Rattle.container_model.proofs.Plain.{IsPlain, ArePlain, plain_chunks}
-use Rattle.carrier_model.specs.Cells.{leave, become, changed_cell, never, acted_cells}
+use Rattle.carrier_model.specs.Cells.{leave, become, changed_cell, never, Test, acted_cells}
 use Rattle.carrier_model.specs.Info.{info, info_items, list_of, list_run, made, remade, one_of, SetsInfo}
 use Rattle.part_tree.specs.Large.{limited, first_above}
 use Rattle.carrier_model.specs.Lists.{home, items_of, all_items, concerns, part_of, edit_nth, has_carrier, sets_some, new_carrier, lists_act, lists_act_by}
@@ -36,9 +36,9 @@ use Rattle.edit_planner.specs.declared.cells.Content.TheVariants.{Kept, Body, Li
 use Rattle.edit_planner.specs.declared.lists.Homed.{Homed}
 use Rattle.edit_planner.specs.declared.lists.ListsFault.{ListsFault}
 use Rattle.edit_planner.specs.declared.lists.ListsFault.TheVariants.{TooLarge, Memory}
-use Rattle.edit_planner.specs.Cells.{IsReadable, Follow, Unmet, content_of, list_in, part_count, told, told_row}
+use Rattle.edit_planner.specs.Cells.{IsReadable, Follow, Unmet, content_of, list_in, part_count, told_by, told_row, told_row_by}
 use Rattle.edit_planner.specs.Row.{is_list, changed_row, count_row, edited_at, new_at, put_new}
-use Rattle.edit_planner.specs.Lists.{AreInfo, IsLarge, IsNewList, TellsLarge, all_marks, fresh_list, changed_list, concerned, homed_of, list_edited, list_edited_by, marks_in, part_in}
+use Rattle.edit_planner.specs.Lists.{AreInfo, Edits, HoldsLists, IsLarge, IsNewList, TellsLarge, all_marks, fresh_list, changed_list, concerned, homed_of, list_edited, list_edited_by, marks_in, part_in}
 use Rattle.edit_planner.proofs.Row.{change_follows}
 use Rattle.edit_planner.proofs.WholeChunks.{put_last}
 use Rattle.edit_planner.proofs.Told.{Fits, settled, some_told, none_changed, list_told}
@@ -167,30 +167,27 @@ pub same_part : (h : List ℕ → ℕ) (n : ℕ) (e : List (Item (List ℕ))) �
 same_part h n [] = refl
 same_part h n (i ∷ e) = ap (λ (xs : List (Item (List ℕ))). record { name = i.name; value = if h i.name == n then i.value else None } ∷ xs) (same_part h n e)
 
-pub lists_fits : (h : List ℕ → ℕ) (e : List (Item (List ℕ))) → Fits is_info (edit_nth info info_items h e) is_list (λ n x. list_edited (homed_of h e) n x)
-lists_fits h e = record {
-  met = list_told;
+pub lists_fits : (held : ℕ → Chunk → Content) → HoldsLists held → (h : List ℕ → ℕ) (e : List (Item (List ℕ))) → Fits held is_info (edit_nth info info_items h e) is_list (λ n x. list_edited (homed_of h e) n x)
+lists_fits held k h e = record {
+  met = k.others;
   gaps = refl;
   news = λ now parts. refl;
   same = λ at n c p. same at n c p;
 }
   where
-    held : (at : ℕ) (c : Chunk) → is_info c ≡ true → content_of at c ≡ Listed (list_in c)
-    held at c p = rw p refl
-
-    same : (at n : ℕ) (c : Chunk) → is_info c ≡ true → list_edited (homed_of h e) n (told at (kept c)) ≡ told at (changed_cell (edit_nth info info_items h e n c) c)
+    same : (at n : ℕ) (c : Chunk) → is_info c ≡ true → list_edited (homed_of h e) n (told_by held at (kept c)) ≡ told_by held at (changed_cell (edit_nth info info_items h e n c) c)
     same at n c p =
-        ap (list_edited_by (homed_of h e) n (told at (kept c))) (held at c p)
-        ∙ ap (λ (t : Bool). if t then edited_at (told at (kept c)) (changed_list (part_in n (homed_of h e)) (list_in c) ∷ []) else told at (kept c))
+        ap (list_edited_by (homed_of h e) n (told_by held at (kept c))) (k.lists at c p)
+        ∙ ap (λ (t : Bool). if t then edited_at (told_by held at (kept c)) (changed_list (part_in n (homed_of h e)) (list_in c) ∷ []) else told_by held at (kept c))
         (ap (λ (ts : List Token). concerned n ts (homed_of h e)) (marks_again c) ∙ same_concern h n (items_of info info_items c) e)
-        ∙ ap (λ (d : Chunk). if concerns h n (items_of info info_items c) e then edited_at (told at (kept c)) (d ∷ []) else told at (kept c))
+        ∙ ap (λ (d : Chunk). if concerns h n (items_of info info_items c) e then edited_at (told_by held at (kept c)) (d ∷ []) else told_by held at (kept c))
         (ap (λ (f : List (Item (List ℕ))). changed_list f (list_in c)) (same_part h n e) ∙ carrier_again (part_of h n e) c)
         ∙ go (concerns h n (items_of info info_items c) e)
       where
         new : Chunk
         new = edit_carrier info info_items (part_of h n e) c
 
-        go : (t : Bool) → (if t then edited_at (told at (kept c)) (new ∷ []) else told at (kept c)) ≡ told at (changed_cell (if t then become (new ∷ []) else leave) c)
+        go : (t : Bool) → (if t then edited_at (told_by held at (kept c)) (new ∷ []) else told_by held at (kept c)) ≡ told_by held at (changed_cell (if t then become (new ∷ []) else leave) c)
         go true = ap (λ (x : List ℕ). record { at = at; next = at + length x; lacks_pad = false; content = Edited (spell_all (new ∷ [])) (parts_in part_count (new ∷ [])) }) (sym (append-nil (spell c)))
         go false = refl
 
@@ -199,40 +196,45 @@ all_past : (a b : List Chunk) → AllByRecursion (λ c. is_info c ≡ false) a �
 all_past [] b h = refl
 all_past (c ∷ a) b h = rw h.0 (all_past a b h.1)
 
-pub marks_told : (at : ℕ) (xs : List Cell) → Unmet is_info xs → all_marks (told_row at xs) ≡ all_items info info_items (flat_map live xs)
-marks_told at [] u = refl
-marks_told at (kept c ∷ xs) u = go (is_info c) (Rattle.wave_model.specs.Fields.is_bext c) refl (marks_told (at + length (spell_all (c ∷ []))) xs u)
+none_marked : (y : Content) → is_list y ≡ false → marks_in y ≡ []
+none_marked (Listed list) e = absurd cc
+none_marked Gap e = refl
+none_marked (Kept id role) e = refl
+none_marked (Body body) e = refl
+none_marked (Edited now parts) e = refl
+
+pub marks_told : (held : ℕ → Chunk → Content) → HoldsLists held → (at : ℕ) (xs : List Cell) → Unmet is_info xs → all_marks (told_row_by held at xs) ≡ all_items info info_items (flat_map live xs)
+marks_told held k at [] u = refl
+marks_told held k at (kept c ∷ xs) u = go (is_info c) refl (marks_told held k (at + length (spell_all (c ∷ []))) xs u)
   where
     rest : List CellAt
-    rest = told_row (at + length (spell_all (c ∷ []))) xs
+    rest = told_row_by held (at + length (spell_all (c ∷ []))) xs
 
-    go : (l b : Bool) → is_info c ≡ l → all_marks rest ≡ all_items info info_items (flat_map live xs)
-        → marks_in (if l then Listed (list_in c) else (if b then Body c.body else Kept (four c.id) (Rattle.wave_file.specs.Map.at_front at (Rattle.wave_file.specs.Map.role_of c)))) ++ all_marks rest
-        ≡ (if l then items_of info info_items c ∷ all_items info info_items (flat_map live xs) else all_items info info_items (flat_map live xs))
-    go true b e h = ap (λ (ts : List Token). ts ∷ all_marks rest) (marks_again c) ∙ ap (λ (tss : List (List Token)). items_of info info_items c ∷ tss) h
-    go false true e h = h
-    go false false e h = h
-marks_told at (Rattle.container_model.specs.Units.gap c ∷ xs) u = marks_told (at + length (spell_all (c ∷ []))) xs u
-marks_told at (Rattle.container_model.specs.Units.edited old now ∷ xs) u = marks_told (at + length (spell_all old)) xs u.1 ∙ sym (all_past now (flat_map live xs) u.0)
+    go : (l : Bool) → is_info c ≡ l → all_marks rest ≡ all_items info info_items (flat_map live xs)
+        → marks_in (held at c) ++ all_marks rest ≡ (if l then items_of info info_items c ∷ all_items info info_items (flat_map live xs) else all_items info info_items (flat_map live xs))
+    go true e h = ap (λ (y : Content). marks_in y ++ all_marks rest) (k.lists at c e) ∙ ap (λ (ts : List Token). ts ∷ all_marks rest) (marks_again c) ∙ ap (λ (tss : List (List Token)). items_of info info_items c ∷ tss) h
+    go false e h = ap (λ (tss : List (List Token)). tss ++ all_marks rest) (none_marked (held at c) (k.others at c ∙ e)) ∙ h
+marks_told held k at (Rattle.container_model.specs.Units.gap c ∷ xs) u = marks_told held k (at + length (spell_all (c ∷ []))) xs u
+marks_told held k at (Rattle.container_model.specs.Units.edited old now ∷ xs) u = marks_told held k (at + length (spell_all old)) xs u.1 ∙ sym (all_past now (flat_map live xs) u.0)
 
 has_any : (cs : List Chunk) → has_carrier info cs ≡ list_any is_info cs
 has_any [] = refl
 has_any (c ∷ cs) = ap (λ (t : Bool). is_info c || t) (has_any cs)
 
-pub some_lists : (h : List ℕ → ℕ) (e : List (Item (List ℕ))) (from : ℕ) (xs : List Cell) (ys : List CellAt) → Unmet is_info xs → ys ≡ told_row from xs → has_carrier info (flat_map live xs) ≡ nat_lt 0 (count_row is_list ys)
-some_lists h e from xs ys u is =
-    has_any (flat_map live xs) ∙ some_told is_info (edit_nth info info_items h e) is_list (λ n x. list_edited (homed_of h e) n x) (lists_fits h e) from xs u ∙ ap (λ (zs : List CellAt). nat_lt 0 (count_row is_list zs)) (sym is)
+pub some_lists : (held : ℕ → Chunk → Content) → HoldsLists held → (h : List ℕ → ℕ) (e : List (Item (List ℕ))) (from : ℕ) (xs : List Cell) (ys : List CellAt) → Unmet is_info xs → ys ≡ told_row_by held from xs → has_carrier info (flat_map live xs) ≡ nat_lt 0 (count_row is_list ys)
+some_lists held k h e from xs ys u is =
+    has_any (flat_map live xs) ∙ some_told held is_info (edit_nth info info_items h e) is_list (λ n x. list_edited (homed_of h e) n x) (lists_fits held k h e) from xs u ∙ ap (λ (zs : List CellAt). nat_lt 0 (count_row is_list zs)) (sym is)
 
-pub lists_changed : (e : List (Item (List ℕ))) (from : ℕ) (xs : List Cell) (ys : List CellAt) (is : List Homed) → is ≡ homed_of (home (all_marks ys)) e → Unmet is_info xs → ys ≡ told_row from xs → 0 < count_row is_list ys
-    → changed_row is_list (λ n x. list_edited is n x) 0 ys ≡ told_row from (acted_cells (lists_act info info_items never e (flat_map live xs)) xs)
-lists_changed e from xs ys is same u told some =
+pub lists_changed : (held : ℕ → Chunk → Content) → HoldsLists held → (t : Test) (e : List (Item (List ℕ))) (from : ℕ) (xs : List Cell) (ys : List CellAt) (is : List Homed) → is ≡ homed_of (home (all_marks ys)) e → Unmet is_info xs → ys ≡ told_row_by held from xs → 0 < count_row is_list ys
+    → changed_row is_list (λ n x. list_edited is n x) 0 ys ≡ told_row_by held from (acted_cells (lists_act info info_items t e (flat_map live xs)) xs)
+lists_changed held k t e from xs ys is same u told some =
     let cs = flat_map live xs in
     let h : List ℕ → ℕ = home (all_items info info_items cs) in
-    let homes : is ≡ homed_of h e = same ∙ ap (λ (tss : List (List Token)). homed_of (home tss) e) (ap all_marks told ∙ marks_told from xs u) in
+    let homes : is ≡ homed_of h e = same ∙ ap (λ (tss : List (List Token)). homed_of (home tss) e) (ap all_marks told ∙ marks_told held k from xs u) in
     ap (λ (js : List Homed). changed_row is_list (λ n x. list_edited js n x) 0 ys) homes
     ∙ ap (changed_row is_list (λ n x. list_edited (homed_of h e) n x) 0) told
-    ∙ sym (settled is_info (edit_nth info info_items h e) is_list (λ n x. list_edited (homed_of h e) n x) (lists_fits h e) 0 from xs u)
-    ∙ ap (λ (t : Bool). told_row from (acted_cells (lists_act_by info info_items never e cs t) xs)) (sym (some_lists h e from xs ys u told ∙ lt-ltb 0 (count_row is_list ys) some))
+    ∙ sym (settled held is_info (edit_nth info info_items h e) is_list (λ n x. list_edited (homed_of h e) n x) (lists_fits held k h e) 0 from xs u)
+    ∙ ap (λ (b : Bool). told_row_by held from (acted_cells (lists_act_by info info_items t e cs b) xs)) (sym (some_lists held k h e from xs ys u told ∙ lt-ltb 0 (count_row is_list ys) some))
 
 -- there is no list
 no_marks : (xs : List CellAt) → count_row is_list xs ≡ 0 → all_marks xs ≡ []
@@ -253,23 +255,44 @@ part_whole (i ∷ e) = ap (λ (xs : List (Item (List ℕ))). i ∷ xs) (part_who
 pub whole_part_is : (e : List (Item (List ℕ))) (ys : List CellAt) (is : List Homed) → is ≡ homed_of (home (all_marks ys)) e → count_row is_list ys ≡ 0 → part_in 0 is ≡ e
 whole_part_is e ys is same none = ap (part_in 0) (same ∙ ap (λ (tss : List (List Token)). homed_of (home tss) e) (no_marks ys none)) ∙ part_whole e
 
-pub no_list : (e : List (Item (List ℕ))) (from : ℕ) (xs : List Cell) (ys zs : List CellAt) (is : List Homed) → is ≡ homed_of (home (all_marks ys)) e → Unmet is_info xs → ys ≡ told_row from xs → count_row is_list ys ≡ 0
-    → zs ≡ changed_row is_list (λ n x. list_edited is n x) 0 ys → sets_some (part_in 0 is) ≡ false → zs ≡ told_row from (acted_cells (lists_act info info_items never e (flat_map live xs)) xs)
-no_list e from xs ys zs is same u told none c sets =
+pub no_list : (held : ℕ → Chunk → Content) → HoldsLists held → (t : Test) (e : List (Item (List ℕ))) (from : ℕ) (xs : List Cell) (ys zs : List CellAt) (is : List Homed) → is ≡ homed_of (home (all_marks ys)) e → Unmet is_info xs → ys ≡ told_row_by held from xs → count_row is_list ys ≡ 0
+    → zs ≡ changed_row is_list (λ n x. list_edited is n x) 0 ys → sets_some (part_in 0 is) ≡ false → zs ≡ told_row_by held from (acted_cells (lists_act info info_items t e (flat_map live xs)) xs)
+no_list held k t e from xs ys zs is same u told none c sets =
     c ∙ none_changed is_list (λ n x. list_edited is n x) 0 ys none ∙ told
-    ∙ ap (λ (t : Bool). told_row from (acted_cells (new_carrier info info_items never e t) xs)) (sym (ap sets_some (sym (whole_part_is e ys is same none)) ∙ sets))
-    ∙ ap (λ (t : Bool). told_row from (acted_cells (lists_act_by info info_items never e (flat_map live xs) t) xs)) (sym (some_lists (home []) e from xs ys u told ∙ ap (nat_lt 0) none))
+    ∙ ap (λ (b : Bool). told_row_by held from (acted_cells (new_carrier info info_items t e b) xs)) (sym (ap sets_some (sym (whole_part_is e ys is same none)) ∙ sets))
+    ∙ ap (λ (b : Bool). told_row_by held from (acted_cells (lists_act_by info info_items t e (flat_map live xs) b) xs)) (sym (some_lists held k (home []) e from xs ys u told ∙ ap (nat_lt 0) none))
 
-pub new_lists : (e : List (Item (List ℕ))) (from : ℕ) (xs : List Cell) (ys zs : List CellAt) (is : List Homed) (content : Content) → is ≡ homed_of (home (all_marks ys)) e → Unmet is_info xs → ys ≡ told_row from xs → count_row is_list ys ≡ 0
-    → zs ≡ changed_row is_list (λ n x. list_edited is n x) 0 ys → IsNewList (part_in 0 is) (Some content)
-    → put_new false (new_at content) from zs ≡ told_row from (acted_cells (lists_act info info_items never e (flat_map live xs)) xs)
-new_lists e from xs ys zs is content same u told none c new =
+pub new_lists : (held : ℕ → Chunk → Content) → HoldsLists held → (t : Test) (e : List (Item (List ℕ))) (from : ℕ) (xs : List Cell) (ys zs : List CellAt) (is : List Homed) (content : Content) → is ≡ homed_of (home (all_marks ys)) e → Unmet is_info xs
+    → ys ≡ told_row_by held from xs → count_row is_list ys ≡ 0 → zs ≡ changed_row is_list (λ n x. list_edited is n x) 0 ys → IsNewList (part_in 0 is) (Some content) → Edits held t from e xs zs (Some content)
+new_lists held k t e from xs ys zs is content same u told none c new =
     let part = whole_part_is e ys is same none in
-    let d : Chunk = fresh_list e in
-    ap (λ (y : Content). put_new false (new_at y) from zs) (new.1 ∙ ap (λ (f : List (Item (List ℕ))). Edited (spell_all (fresh_list f ∷ [])) (parts_in part_count (fresh_list f ∷ []))) part)
-    ∙ put_last d from xs zs (c ∙ none_changed is_list (λ n x. list_edited is n x) 0 ys none ∙ told)
-    ∙ ap (λ (t : Bool). told_row from (acted_cells (new_carrier info info_items never e t) xs)) (sym (ap sets_some (sym part) ∙ new.0))
-    ∙ ap (λ (t : Bool). told_row from (acted_cells (lists_act_by info info_items never e (flat_map live xs) t) xs)) (sym (some_lists (home []) e from xs ys u told ∙ ap (nat_lt 0) none))
+    (
+      c ∙ none_changed is_list (λ n x. list_edited is n x) 0 ys none ∙ told,
+      new.1 ∙ ap (λ (f : List (Item (List ℕ))). Edited (spell_all (fresh_list f ∷ [])) (parts_in part_count (fresh_list f ∷ []))) part,
+      ap (λ (b : Bool). acted_cells (lists_act_by info info_items t e (flat_map live xs) b) xs) (some_lists held k (home []) e from xs ys u told ∙ ap (nat_lt 0) none)
+      ∙ ap (λ (b : Bool). acted_cells (new_carrier info info_items t e b) xs) (ap sets_some (sym part) ∙ new.0),
+    )
+
+-- what is answered where there is no list
+pub edits_by : (r : Result (Option Content) ListsFault) (e : List (Item (List ℕ))) (ys zs : List CellAt) (is js : List Homed) → js ≡ is → is ≡ homed_of (home (all_marks ys)) e → count_row is_list ys ≡ 0
+    → zs ≡ changed_row is_list (λ n x. list_edited is n x) 0 ys → IfOk r (λ content. IsNewList (part_in 0 js) content)
+    → IfOk r (λ new. (held : ℕ → Chunk → Content) (t : Test) (from : ℕ) (xs : List Cell) → HoldsLists held → Unmet is_info xs → ys ≡ told_row_by held from xs → Edits held t from e xs zs new)
+edits_by (Err fault) e ys zs is js eq same none c new = tt
+edits_by (Ok None) e ys zs is js eq same none c new = λ held t from xs k u told.
+    no_list held k t e from xs ys zs is same u told none c (subst (λ (hs : List Homed). IsNewList (part_in 0 hs) None) eq new)
+edits_by (Ok (Some content)) e ys zs is js eq same none c new = λ held t from xs k u told.
+    new_lists held k t e from xs ys zs is content same u told none c (subst (λ (hs : List Homed). IsNewList (part_in 0 hs) (Some content)) eq new)
+
+-- a new list that stands last
+pub list_last : (e : List (Item (List ℕ))) (from : ℕ) (xs : List Cell) (zs : List CellAt) (content : Content) → Edits content_of never from e xs zs (Some content)
+    → put_new false (new_at content) from zs ≡ told_row from (acted_cells (lists_act info info_items never e (flat_map live xs)) xs)
+list_last e from xs zs content h =
+    ap (λ (y : Content). put_new false (new_at y) from zs) (h.1)
+    ∙ put_last (fresh_list e) from xs zs h.0
+    ∙ ap (told_row from) (sym h.2)
+
+pub wave_holds : HoldsLists content_of
+wave_holds = record { lists = λ at c p. rw p refl; others = list_told }
 
 -- ---- whatever the file
 
@@ -286,6 +309,15 @@ lists_follow is from ys zs end e h = subst (λ (xs : List CellAt). Follow from x
     by n x (Kept id role) = (refl, refl)
     by n x (Body body) = (refl, refl)
     by n x (Edited now parts) = (refl, refl)
+
+pub lists_long : (is : List Homed) (n : ℕ) (ys : List CellAt) → length (changed_row is_list (λ m x. list_edited is m x) n ys) ≡ length ys
+lists_long is n [] = refl
+lists_long is n (x ∷ ys) = go (is_list x.content) (λ m. lists_long is m ys)
+  where
+    go : (t : Bool) → ((m : ℕ) → length (changed_row is_list (λ m x. list_edited is m x) m ys) ≡ length ys)
+        → length (if t then list_edited is n x ∷ changed_row is_list (λ m x. list_edited is m x) (n + 1) ys else x ∷ changed_row is_list (λ m x. list_edited is m x) n ys) ≡ suc (length ys)
+    go true again = omega (arith, again (n + 1))
+    go false again = omega (arith, again n)
 
 -- the changes are of INFO fields
 info_homed : (h : List ℕ → ℕ) (e : List (Item (List ℕ))) → SetsInfo e → AreInfo (homed_of h e)

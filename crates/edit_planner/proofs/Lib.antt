@@ -19,3 +19,10 @@ pub mod MoovStands
 pub mod MoovPlaces
 pub mod MovieLaid
 pub mod MovieEdit
+pub mod AviTops
+pub mod AviRow
+pub mod AviLoops
+pub mod AviForms
+pub mod AviPlaced
+pub mod AviTables
+pub mod AviReady

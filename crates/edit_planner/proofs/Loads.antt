@@ -8,30 +8,30 @@ use Rattle.std.proofs.lemmas.List.{append-nil, at_drop_more, drop_all}
 use Rattle.part_tree.specs.declared.part.Part.{Part}
 use Rattle.part_tree.specs.declared.part.Role.TheVariants.{Opaque}
 use Rattle.container_model.specs.Chunk.{Chunk, spell}
-use Rattle.container_model.specs.Walk.{along}
-use Rattle.wave_file.specs.Map.{Ascend, at_front, part_as, part_at, role_of}
+use Rattle.wave_file.specs.Map.{Ascend, part_as}
+use Rattle.part_tree.specs.declared.part.Role.{Role}
 use Rattle.edit_planner.specs.declared.cells.CellAt.{CellAt}
-use Rattle.edit_planner.specs.Cells.{AreReadable, IsReadable, Follow, told}
-use Rattle.edit_planner.specs.Stand.{StandsAt, StandFrom, cell_at, told_chunks}
+use Rattle.edit_planner.specs.Cells.{AreReadable, IsReadable, Follow}
+use Rattle.edit_planner.specs.Stand.{StandsAt, StandFrom, held_at, held_from, parts_from}
 
 -- a part of nothing
 abbrev pub no_part : Part
 no_part = record { id = record { 0 = [] }; at = 0; body = record { at = 0; len = 0 }; next = 0; role = Opaque }
 
 -- what is read so far and what is left are the whole
-pub record LoadLeft (b : List ℕ) (from : ℕ) (cs : List Chunk) (at k : ℕ) (parts : List Part) (cells : List CellAt) : Type 0 where
-  pub told_left : cells ++ told_chunks at (drop k cs) ≡ told_chunks from cs
-  pub parts_left : drop k parts ≡ along part_at at (drop k cs)
+pub record LoadLeft (role : ℕ → Chunk → Role) (b : List ℕ) (from : ℕ) (cs : List Chunk) (at k : ℕ) (parts : List Part) (cells : List CellAt) : Type 0 where
+  pub told_left : cells ++ held_from role at (drop k cs) ≡ held_from role from cs
+  pub parts_left : drop k parts ≡ parts_from role at (drop k cs)
   pub stands : StandFrom b at (drop k cs)
 
-pub none_loaded : (b : List ℕ) (from : ℕ) (cs : List Chunk) (parts : List Part) → parts ≡ along part_at from cs → StandFrom b from cs → LoadLeft b from cs from 0 parts []
-none_loaded b from cs parts e s = record { told_left = refl; parts_left = e; stands = s }
+pub none_loaded : (role : ℕ → Chunk → Role) (b : List ℕ) (from : ℕ) (cs : List Chunk) (parts : List Part) → parts ≡ parts_from role from cs → StandFrom b from cs → LoadLeft role b from cs from 0 parts []
+none_loaded role b from cs parts e s = record { told_left = refl; parts_left = e; stands = s }
 
 -- the first chunk that is left
-pub record Next (b : List ℕ) (at k : ℕ) (cs : List Chunk) (part : Part) : Type 0 where
+pub record Next (role : ℕ → Chunk → Role) (b : List ℕ) (at k : ℕ) (cs : List Chunk) (part : Part) : Type 0 where
   pub chunk : Chunk
   pub split : drop k cs ≡ chunk ∷ drop (k + 1) cs
-  pub is_part : part ≡ part_as (at_front at (role_of chunk)) at chunk
+  pub is_part : part ≡ part_as (role at chunk) at chunk
   pub stands : StandsAt b at chunk
   pub later : StandFrom b (at + length (spell chunk)) (drop (k + 1) cs)
 
@@ -45,13 +45,13 @@ drop_tail zero c (d ∷ cs) ds e = cc
 drop_tail (suc k) c [] ds e = absurd cc
 drop_tail (suc k) c (d ∷ cs) ds e = let n : suc k + 1 ≡ suc (k + 1) = omega arith in ap (λ (m : ℕ). drop m (d ∷ cs)) n ∙ drop_tail k c cs ds e
 
-pub next_chunk : (b : List ℕ) (from : ℕ) (cs : List Chunk) (at k : ℕ) (parts : List Part) (cells : List CellAt) (part d : Part) → LoadLeft b from cs at k parts cells → k < length parts → part ≡ get_or parts k d → Next b at k cs part
-next_chunk b from cs at k parts cells part d left lt here = go (drop k cs) refl (sym split ∙ left.parts_left) left.stands
+pub next_chunk : (role : ℕ → Chunk → Role) (b : List ℕ) (from : ℕ) (cs : List Chunk) (at k : ℕ) (parts : List Part) (cells : List CellAt) (part d : Part) → LoadLeft role b from cs at k parts cells → k < length parts → part ≡ get_or parts k d → Next role b at k cs part
+next_chunk role b from cs at k parts cells part d left lt here = go (drop k cs) refl (sym split ∙ left.parts_left) left.stands
   where
     split : drop k parts ≡ part ∷ drop (k + 1) parts
     split = at_drop_more (λ (ps : List Part). ps) parts k d lt ∙ ap (λ (p : Part). p ∷ drop (k + 1) parts) (sym here)
 
-    go : (ds : List Chunk) → drop k cs ≡ ds → part ∷ drop (k + 1) parts ≡ along part_at at ds → StandFrom b at ds → Next b at k cs part
+    go : (ds : List Chunk) → drop k cs ≡ ds → part ∷ drop (k + 1) parts ≡ parts_from role at ds → StandFrom b at ds → Next role b at k cs part
     go [] e p s = absurd cc
     go (x ∷ ds) e p s =
         let rest : drop (k + 1) cs ≡ ds = drop_tail k x cs ds e in
@@ -63,33 +63,33 @@ next_chunk b from cs at k parts cells part d left lt here = go (drop k cs) refl 
           later = subst (StandFrom b (at + length (spell x))) (sym rest) s.1;
         }
 
-pub one_loaded : (b : List ℕ) (from : ℕ) (cs : List Chunk) (at k to : ℕ) (parts : List Part) (cells more : List CellAt) (part d : Part) (cell : CellAt) → LoadLeft b from cs at k parts cells → k < length parts → part ≡ get_or parts k d
-    → (n : Next b at k cs part) → to ≡ part.next → cell ≡ told at (cell_at at n.chunk) → more ≡ cells ++ cell ∷ [] → LoadLeft b from cs to (k + 1) parts more
-one_loaded b from cs at k to parts cells more part d cell left lt here n place is pushed =
+pub one_loaded : (role : ℕ → Chunk → Role) (b : List ℕ) (from : ℕ) (cs : List Chunk) (at k to : ℕ) (parts : List Part) (cells more : List CellAt) (part d : Part) (cell : CellAt) → LoadLeft role b from cs at k parts cells → k < length parts → part ≡ get_or parts k d
+    → (n : Next role b at k cs part) → to ≡ part.next → cell ≡ held_at (role at n.chunk) at n.chunk → more ≡ cells ++ cell ∷ [] → LoadLeft role b from cs to (k + 1) parts more
+one_loaded role b from cs at k to parts cells more part d cell left lt here n place is pushed =
     let next : to ≡ at + length (spell n.chunk) = place ∙ ap (λ (p : Part). p.next) n.is_part in
     let split : drop k parts ≡ part ∷ drop (k + 1) parts = at_drop_more (λ (ps : List Part). ps) parts k d lt ∙ ap (λ (p : Part). p ∷ drop (k + 1) parts) (sym here) in
-    let rows : part ∷ drop (k + 1) parts ≡ part_as (at_front at (role_of n.chunk)) at n.chunk ∷ along part_at (at + length (spell n.chunk)) (drop (k + 1) cs) = sym split ∙ left.parts_left ∙ ap (along part_at at) n.split in
-    let later : drop (k + 1) parts ≡ along part_at (at + length (spell n.chunk)) (drop (k + 1) cs) = ap tail rows in
+    let rows : part ∷ drop (k + 1) parts ≡ part_as (role at n.chunk) at n.chunk ∷ parts_from role (at + length (spell n.chunk)) (drop (k + 1) cs) = sym split ∙ left.parts_left ∙ ap (parts_from role at) n.split in
+    let later : drop (k + 1) parts ≡ parts_from role (at + length (spell n.chunk)) (drop (k + 1) cs) = ap tail rows in
     record {
       told_left =
-          ap (λ (xs : List CellAt). xs ++ told_chunks to (drop (k + 1) cs)) pushed
-          ∙ append_assoc cells (cell ∷ []) (told_chunks to (drop (k + 1) cs))
-          ∙ ap (λ (m : ℕ). cells ++ cell ∷ told_chunks m (drop (k + 1) cs)) next
-          ∙ ap (λ (x : CellAt). cells ++ x ∷ told_chunks (at + length (spell n.chunk)) (drop (k + 1) cs)) is
-          ∙ ap (λ (ds : List Chunk). cells ++ told_chunks at ds) (sym n.split)
+          ap (λ (xs : List CellAt). xs ++ held_from role to (drop (k + 1) cs)) pushed
+          ∙ append_assoc cells (cell ∷ []) (held_from role to (drop (k + 1) cs))
+          ∙ ap (λ (m : ℕ). cells ++ cell ∷ held_from role m (drop (k + 1) cs)) next
+          ∙ ap (λ (x : CellAt). cells ++ x ∷ held_from role (at + length (spell n.chunk)) (drop (k + 1) cs)) is
+          ∙ ap (λ (ds : List Chunk). cells ++ held_from role at ds) (sym n.split)
           ∙ left.told_left;
-      parts_left = later ∙ ap (λ (m : ℕ). along part_at m (drop (k + 1) cs)) (sym next);
+      parts_left = later ∙ ap (λ (m : ℕ). parts_from role m (drop (k + 1) cs)) (sym next);
       stands = subst (λ (m : ℕ). StandFrom b m (drop (k + 1) cs)) (sym next) n.later;
     }
 
-no_chunks : (at : ℕ) (ds : List Chunk) → [] ≡ along part_at at ds → ds ≡ []
-no_chunks at [] e = refl
-no_chunks at (d ∷ ds) e = absurd cc
+no_chunks : (role : ℕ → Chunk → Role) (at : ℕ) (ds : List Chunk) → [] ≡ parts_from role at ds → ds ≡ []
+no_chunks role at [] e = refl
+no_chunks role at (d ∷ ds) e = absurd cc
 
-pub all_loaded : (b : List ℕ) (from : ℕ) (cs : List Chunk) (at k : ℕ) (parts : List Part) (cells : List CellAt) → LoadLeft b from cs at k parts cells → length parts ≤ k → cells ≡ told_chunks from cs
-all_loaded b from cs at k parts cells left le =
-    let none : drop k cs ≡ [] = no_chunks at (drop k cs) (sym (drop_all k parts le) ∙ left.parts_left) in
-    sym (append-nil cells) ∙ ap (λ (ds : List Chunk). cells ++ told_chunks at ds) (sym none) ∙ left.told_left
+pub all_loaded : (role : ℕ → Chunk → Role) (b : List ℕ) (from : ℕ) (cs : List Chunk) (at k : ℕ) (parts : List Part) (cells : List CellAt) → LoadLeft role b from cs at k parts cells → length parts ≤ k → cells ≡ held_from role from cs
+all_loaded role b from cs at k parts cells left le =
+    let none : drop k cs ≡ [] = no_chunks role at (drop k cs) (sym (drop_all k parts le) ∙ left.parts_left) in
+    sym (append-nil cells) ∙ ap (λ (ds : List Chunk). cells ++ held_from role at ds) (sym none) ∙ left.told_left
 
 -- ---- whatever the file
 

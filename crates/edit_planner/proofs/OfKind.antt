@@ -1,5 +1,5 @@
 -- What holds of a kind holds of each file of that kind.
-use Rattle.std.proofs.Common.{◌≡◌, ℕ, List, [], ◌∷◌, take, drop, Bool, true, false, cond, ◌&&◌, ◌||◌, Option, Some, None, refl, sym, ap, ◌∙◌, subst, inl, inr, arith}
+use Rattle.std.proofs.Common.{◌≡◌, ℕ, List, [], ◌∷◌, leb, length, take, drop, Bool, true, false, cond, ◌&&◌, ◌||◌, Option, Some, None, refl, sym, ap, ◌∙◌, subst, inl, inr, arith}
 use Rattle.std.specs.Prelude.{codes, not, ◌⊎◌}
 use Rattle.std.specs.Str.{bytes_eq}
 use Rattle.std.proofs.lemmas.Bool.{and_parts, or_cases}
@@ -12,9 +12,12 @@ use Rattle.field_model.specs.Kind.{KindModel, IsKind}
 use Rattle.container_model.specs.Tests.{first, or_else}
 use Rattle.part_tree.specs.declared.why.Why.TheVariants.{NotBuilt}
 use Rattle.avi_model.specs.Kind.{avi_kind}
+use Rattle.avi_model.specs.Why.{why_named}
 use Rattle.avi_model.proofs.AviKind.{is_avi_kind}
 use Rattle.mov_file.proofs.FirstMoov.{kind_read}
 use Rattle.mov_model.specs.Begins as mov
+use Rattle.container_model.proofs.Items.{same_true}
+use Rattle.edit_planner.proofs.AviForms.{supported_by}
 use Rattle.mov_model.specs.Kind.{mov_kind}
 use Rattle.mov_model.specs.Why as mov_why
 use Rattle.mov_model.proofs.Why.{none_supported}
@@ -179,3 +182,43 @@ some_mov (Some Mov) h = refl
 -- a supported movie is of the kind of movies
 pub is_mov_file : (o : List ℕ) → mov_why.why o ≡ None → kind_at o ≡ Some Mov
 is_mov_file o fine = kind_read o ∙ some_mov (kind o) (none_supported o fine).readable.kind
+-- ---- an AVI file
+
+-- a form of one type is of no other
+other_type : (id a b x : List ℕ) → bytes_eq (take 4 (drop 8 x)) a ≡ true → bytes_eq a b ≡ false → is_form_of id b x ≡ false
+other_type id a b x h differ = ap (λ (t : Bool). bytes_eq (take 4 x) id && t) (ap (λ (y : List ℕ). bytes_eq y b) (same_true (take 4 (drop 8 x)) a h) ∙ differ) ∙ and_none (bytes_eq (take 4 x) id)
+  where
+    and_none : (t : Bool) → (t && false) ≡ false
+    and_none true = refl
+    and_none false = refl
+
+fourth : (t u v w : Bool) (rest : Option Kind) → t ≡ false → u ≡ false → v ≡ false → w ≡ true → cond t (Some Wave) (cond u (Some Rf64) (cond v (Some Bw64) (cond w (Some Avi) rest))) ≡ Some Avi
+fourth true u v w rest e f g h = absurd cc
+fourth false true v w rest e f g h = absurd cc
+fourth false false true w rest e f g h = absurd cc
+fourth false false false true rest e f g h = refl
+fourth false false false false rest e f g h = absurd cc
+
+-- a supported AVI file is of the kind of AVI files
+pub avi_is_read : (o : List ℕ) → why_named o ≡ None → kind_at o ≡ Some Avi
+avi_is_read o fine =
+    fourth (is_form_of (codes "RIFF") (codes "WAVE") b) (is_form_of (codes "RF64") (codes "WAVE") b) (is_form_of (codes "BW64") (codes "WAVE") b) (is_form_of (codes "RIFF") (codes "AVI ") b) (cond (is_movie b) (Some Mov) None)
+    (other_type (codes "RIFF") (codes "AVI ") (codes "WAVE") b word refl) (other_type (codes "RF64") (codes "AVI ") (codes "WAVE") b word refl) (other_type (codes "BW64") (codes "AVI ") (codes "WAVE") b word refl) form
+  where
+    b : List ℕ
+    b = take 12 o
+
+    parts : (bytes_eq (take 4 o) (codes "RIFF") ≡ true) × (bytes_eq (take 4 (drop 8 o)) (codes "AVI ") ≡ true)
+    parts = and_parts (bytes_eq (take 4 o) (codes "RIFF")) (bytes_eq (take 4 (drop 8 o)) (codes "AVI ")) (and_parts (leb 12 (length o)) _ (supported_by o fine).is_avi).1
+
+    front : take 4 b ≡ take 4 o
+    front = take-take 4 12 o (omega arith)
+
+    behind : take 4 (drop 8 b) ≡ take 4 (drop 8 o)
+    behind = ap (take 4) (drop-take 8 4 o) ∙ take-take 4 4 (drop 8 o) (omega arith)
+
+    word : bytes_eq (take 4 (drop 8 b)) (codes "AVI ") ≡ true
+    word = ap (λ (x : List ℕ). bytes_eq x (codes "AVI ")) behind ∙ parts.1
+
+    form : is_form_of (codes "RIFF") (codes "AVI ") b ≡ true
+    form = ap (λ (x : List ℕ). bytes_eq x (codes "RIFF") && bytes_eq (take 4 (drop 8 b)) (codes "AVI ")) front ∙ ap (λ (t : Bool). t && bytes_eq (take 4 (drop 8 b)) (codes "AVI ")) parts.0 ∙ word

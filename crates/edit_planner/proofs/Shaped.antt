@@ -36,14 +36,16 @@ use Rattle.unit_plan.specs.Shapes.{Shape, stays, pads, changes, parts_in, shape_
 use Rattle.unit_plan.specs.Places.{Follow, shape_in}
 use Rattle.unit_plan.specs.declared.place.Place.{Place}
 use Rattle.edit_planner.specs.declared.cells.CellAt.{CellAt}
+use Rattle.edit_planner.specs.declared.cells.Content.{Content}
 use Rattle.edit_planner.specs.declared.cells.Content.TheVariants.{Kept, Body, Listed}
 use Rattle.field_model.specs.Update.{RawItem}
 use Rattle.wave_model.specs.Carry.{steps}
 use Rattle.edit_planner.specs.declared.wave.PlaceRow.{PlaceRow}
 use Rattle.edit_planner.specs.Places.{IsRowOf, begins_at, list_sizes, first_child, is_sizes}
 use Rattle.edit_planner.specs.Cells as cells
-use Rattle.edit_planner.specs.Cells.{Unedited, content_of, list_in, part_count, told, told_row}
-use Rattle.edit_planner.specs.Stand.{StandFrom, cell_at, told_chunks, placed, count_of, what_of}
+use Rattle.edit_planner.specs.Cells.{Unedited, content_of, list_in, part_count, told, told_by, told_row, told_row_by}
+use Rattle.edit_planner.specs.Stand.{StandFrom, cell_at, held_from, parts_from, told_chunks, placed, count_of, what_of, wave_role}
+use Rattle.edit_planner.proofs.Stands.{wave_cells}
 
 -- ---- chunks stand where they are told
 
@@ -191,19 +193,27 @@ kept_what at c = go (is_info c) (is_bext c)
     go false true = refl
     go false false = refl
 
-one_shape : (b x y : List ℕ) (at : ℕ) (cell : Cell) → b ≡ x ++ (spell_all (was cell) ++ y) → length x ≡ at → Gaps (λ c. is_info c ≡ false) (cell ∷ []) → shape_in b (placed (told at cell)) ≡ shape_of part_count cell
-one_shape b x y at (kept c) e l g =
+-- a chunk that is kept stays, and counts for its parts
+pub record Stays (held : ℕ → Chunk → Content) : Type 0 where
+  pub parts : (at : ℕ) (c : Chunk) → count_of (held at c) ≡ part_count c
+  pub what : (at : ℕ) (c : Chunk) → what_of (held at c) ≡ Rattle.unit_plan.specs.declared.place.What.TheVariants.Stays
+
+wave_stays : Stays content_of
+wave_stays = record { parts = kept_parts; what = kept_what }
+
+pub one_shape : (held : ℕ → Chunk → Content) → Stays held → (b x y : List ℕ) (at : ℕ) (cell : Cell) → b ≡ x ++ (spell_all (was cell) ++ y) → length x ≡ at → Gaps (λ c. is_info c ≡ false) (cell ∷ []) → shape_in b (placed (told_by held at cell)) ≡ shape_of part_count cell
+one_shape held k b x y at (kept c) e l g =
     let n : (at + length (spell c)) - at ≡ length (spell c) = omega arith in
-    ap (Rattle.unit_plan.specs.Places.shape_by (window b at (at + length (spell c))) ((at + length (spell c)) - at) (lacks_pad c) (count_of (content_of at c))) (kept_what at c)
-    ∙ ap (λ (m : ℕ). stays m (lacks_pad c) (count_of (content_of at c))) n ∙ ap (stays (length (spell c)) (lacks_pad c)) (kept_parts at c)
-one_shape b x y at (gap c) e l g =
+    ap (Rattle.unit_plan.specs.Places.shape_by (window b at (at + length (spell c))) ((at + length (spell c)) - at) (lacks_pad c) (count_of (held at c))) (k.what at c)
+    ∙ ap (λ (m : ℕ). stays m (lacks_pad c) (count_of (held at c))) n ∙ ap (stays (length (spell c)) (lacks_pad c)) (k.parts at c)
+one_shape held k b x y at (gap c) e l g =
     let whole : b ≡ x ++ (spell c ++ y) = e ∙ ap (λ (z : List ℕ). x ++ (z ++ y)) (append-nil (spell c)) in
     ap (λ (o : List ℕ). pads o (lacks_pad c) 1) (ap (λ (z : List ℕ). window z at (at + length (spell c))) whole ∙ bytes_at x (spell c) y at l)
     ∙ ap (λ (t : Bool). pads (spell c) (lacks_pad c) (length (if t then c ∷ (list_run c).chunks else c ∷ []))) (sym g.0)
-one_shape b x y at (edited old now) e l g =
+one_shape held k b x y at (edited old now) e l g =
     ap (λ (o : List ℕ). changes o (spell_all now) (parts_in part_count now)) (ap (λ (z : List ℕ). window z at (at + length (spell_all old))) e ∙ bytes_at x (spell_all old) y at l)
 
-spell_both : (a c : List Chunk) → spell_all (a ++ c) ≡ spell_all a ++ spell_all c
+pub spell_both : (a c : List Chunk) → spell_all (a ++ c) ≡ spell_all a ++ spell_all c
 spell_both [] c = refl
 spell_both (x ∷ a) c = ap (λ (z : List ℕ). spell x ++ z) (spell_both a c) ∙ sym (append_assoc (spell x) (spell_all a) (spell_all c))
 
@@ -212,15 +222,15 @@ gaps_here (kept c) xs g = (tt, g)
 gaps_here (gap c) xs g = ((g.0, tt), g.1)
 gaps_here (edited old now) xs g = (tt, g)
 
-pub shapes : (b x y : List ℕ) (at : ℕ) (xs : List Cell) → b ≡ x ++ (spell_all (flat_map was xs) ++ y) → length x ≡ at → Gaps (λ c. is_info c ≡ false) xs → map (shape_in b) (map placed (told_row at xs)) ≡ map (shape_of part_count) xs
-shapes b x y at [] e l g = refl
-shapes b x y at (cell ∷ xs) e l g =
+pub shapes : (held : ℕ → Chunk → Content) → Stays held → (b x y : List ℕ) (at : ℕ) (xs : List Cell) → b ≡ x ++ (spell_all (flat_map was xs) ++ y) → length x ≡ at → Gaps (λ c. is_info c ≡ false) xs → map (shape_in b) (map placed (told_row_by held at xs)) ≡ map (shape_of part_count) xs
+shapes held k b x y at [] e l g = refl
+shapes held k b x y at (cell ∷ xs) e l g =
     let s = spell_all (was cell) in
     let r = spell_all (flat_map was xs) in
     let here : b ≡ x ++ (s ++ (r ++ y)) = e ∙ ap (λ (z : List ℕ). x ++ (z ++ y)) (spell_both (was cell) (flat_map was xs)) ∙ ap (λ (z : List ℕ). x ++ z) (append_assoc s r y) in
     let parts = gaps_here cell xs g in
-    ap (λ (z : Shape). z ∷ map (shape_in b) (map placed (told_row (at + length s) xs))) (one_shape b x (r ++ y) at cell here l parts.0)
-    ∙ ap (λ (zs : List Shape). shape_of part_count cell ∷ zs) (shapes b (x ++ s) y (at + length s) xs (here ∙ sym (append_assoc x s (r ++ y))) (omega (arith, l, length-append x s)) parts.1)
+    ap (λ (z : Shape). z ∷ map (shape_in b) (map placed (told_row_by held (at + length s) xs))) (one_shape held k b x (r ++ y) at cell here l parts.0)
+    ∙ ap (λ (zs : List Shape). shape_of part_count cell ∷ zs) (shapes held k b (x ++ s) y (at + length s) xs (here ∙ sym (append_assoc x s (r ++ y))) (omega (arith, l, length-append x s)) parts.1)
 
 -- the shapes of all places
 pub places_told : (b : List ℕ) (s : Split b) (ss : List Step) (cells : List CellAt) (places : List Place) → places ≡ map placed cells → cells ≡ told_row (children_at (wave_of b)) (carried ss (cells_of (wave_of b)))
@@ -231,7 +241,7 @@ places_told b s ss cells places p e =
     let chunks : flat_map was (carried ss xs) ≡ w.children = was_carried ss xs ∙ was_cells w.ds64 w.children in
     let gaps = gaps_carried (λ c. is_info c ≡ false) ss xs (gaps_cells (λ c. is_info c ≡ false) (λ c h. padding_no_list (codes "INFO") c h) w.ds64 w.children) in
     ap (map (shape_in b)) (p ∙ ap (map placed) e)
-    ∙ shapes b s.front s.rest (children_at w) (carried ss xs) (s.whole ∙ ap (λ (cs : List Chunk). s.front ++ (spell_all cs ++ s.rest)) (sym chunks)) s.len gaps
+    ∙ shapes content_of wave_stays b s.front s.rest (children_at w) (carried ss xs) (s.whole ∙ ap (λ (cs : List Chunk). s.front ++ (spell_all cs ++ s.rest)) (sym chunks)) s.len gaps
 
 -- ---- where the children begin
 
@@ -315,7 +325,7 @@ places_follow at [] end h = h
 places_follow at (x ∷ xs) end h = (h.0, h.1, h.2, places_follow x.next xs end h.3)
 
 pub row_told : (b : List ℕ) (e : List RawItem) (r : PlaceRow) (before cells : List CellAt) (parts ps : List Part) (n : ℕ) → IsBytes b → Supported b → parts ≡ all_parts (wave_of b) → n ≡ begins_at parts → ps ≡ drop (first_child parts) parts
-    → r.from ≡ n → ((cs : List Chunk) → ps ≡ along part_at n cs → StandFrom b n cs → before ≡ told_chunks n cs)
+    → r.from ≡ n → ((role : ℕ → Chunk → Role) (cs : List Chunk) → ps ≡ parts_from role n cs → StandFrom b n cs → before ≡ held_from role n cs)
     → ((xs : List Cell) → Unedited xs → before ≡ told_row n xs → cells ≡ told_row n (carried (steps e) xs)) → r.places.items ≡ map placed cells → first_above (list_sizes b e) ≡ None → IsRowOf b e r
 row_told b e r before cells parts ps n bytes sup all begin slice from load edit places lists =
     let w = wave_of b in
@@ -323,7 +333,7 @@ row_told b e r before cells parts ps n bytes sup all begin slice from load edit 
     let st = starts_told b parts all in
     let here : n ≡ children_at w = begin ∙ st.begin ∙ sym (children_place w) in
     let rest : ps ≡ along part_at n w.children = slice ∙ st.rest ∙ ap (λ (m : ℕ). along part_at m w.children) (sym (children_place w) ∙ sym here) in
-    let loaded : before ≡ told_chunks n w.children = load w.children rest (subst (λ (m : ℕ). StandFrom b m w.children) (sym here) (children_stand b s)) in
+    let loaded : before ≡ told_chunks n w.children = load wave_role w.children rest (subst (λ (m : ℕ). StandFrom b m w.children) (sym here) (children_stand b s)) ∙ wave_cells n w.children in
     let row : before ≡ told_row n (cells_of w) = loaded ∙ ap (λ (m : ℕ). told_chunks m w.children) here ∙ sym (cells_told b s) ∙ ap (λ (m : ℕ). told_row m (cells_of w)) (sym here) in
     let done : cells ≡ told_row (children_at w) (carried (steps e) (cells_of w)) = edit (cells_of w) (cells_unedited w.ds64 w.children) row ∙ ap (λ (m : ℕ). told_row m (carried (steps e) (cells_of w))) here in
     record { begins = from ∙ here; shapes = places_told b s (steps e) cells r.places.items places done; lists = lists }
@@ -333,12 +343,12 @@ tail_of k ps = Rattle.std.proofs.lemmas.List.take_all (length ps - k) (drop k ps
 
 -- the cells that are read
 pub before_told : (b : List ℕ) (before : List CellAt) (parts ps : List Part) (n : ℕ) → IsBytes b → Supported b → parts ≡ all_parts (wave_of b) → n ≡ begins_at parts → ps ≡ drop (first_child parts) parts
-    → ((cs : List Chunk) → ps ≡ along part_at n cs → StandFrom b n cs → before ≡ told_chunks n cs) → before ≡ told_row n (cells_of (wave_of b))
+    → ((role : ℕ → Chunk → Role) (cs : List Chunk) → ps ≡ parts_from role n cs → StandFrom b n cs → before ≡ held_from role n cs) → before ≡ told_row n (cells_of (wave_of b))
 before_told b before parts ps n bytes sup all begin slice load =
     let w = wave_of b in
     let s = split_of b bytes sup in
     let st = starts_told b parts all in
     let here : n ≡ children_at w = begin ∙ st.begin ∙ sym (children_place w) in
     let rest : ps ≡ along part_at n w.children = slice ∙ st.rest ∙ ap (λ (m : ℕ). along part_at m w.children) (sym (children_place w) ∙ sym here) in
-    let loaded : before ≡ told_chunks n w.children = load w.children rest (subst (λ (m : ℕ). StandFrom b m w.children) (sym here) (children_stand b s)) in
+    let loaded : before ≡ told_chunks n w.children = load wave_role w.children rest (subst (λ (m : ℕ). StandFrom b m w.children) (sym here) (children_stand b s)) ∙ wave_cells n w.children in
     loaded ∙ ap (λ (m : ℕ). told_chunks m w.children) here ∙ sym (cells_told b s) ∙ ap (λ (m : ℕ). told_row m (cells_of w)) (sym here)

@@ -24,10 +24,11 @@ use Rattle.wave_model.specs.Why.{is_data}
 use Rattle.wave_model.proofs.Acts.{junk_id, junk_bext}
 use Rattle.wave_file.specs.Map.{is_field, role_of, at_front, part_as}
 use Rattle.wave_file.proofs.Roles.{bext_holds}
+use Rattle.edit_planner.specs.declared.cells.CellAt.{CellAt}
 use Rattle.edit_planner.specs.declared.cells.Content.{Content}
 use Rattle.edit_planner.specs.declared.cells.Content.TheVariants.{Kept, Body, Listed, Gap}
 use Rattle.edit_planner.specs.Cells.{IsReadable, content_of, list_in, told}
-use Rattle.edit_planner.specs.Stand.{StandsAt, cell_at}
+use Rattle.edit_planner.specs.Stand.{StandsAt, cell_at, held_at, held_by, held_from, told_chunks, wave_role}
 
 -- ---- a list that is read
 
@@ -97,13 +98,13 @@ kinds c = record {
   bext_no_field = λ e. (bext_holds c e).whole_is;
 }
 
-told_by : (at : ℕ) (c : Chunk) (t : Bool) → (told at (cell_by c t)).content ≡ (if t then Gap else content_of at c)
-told_by at c true = refl
-told_by at c false = refl
+content_at : (at : ℕ) (c : Chunk) (t : Bool) → (told at (cell_by c t)).content ≡ (if t then Gap else content_of at c)
+content_at at c true = refl
+content_at at c false = refl
 
 -- what is told where the role is this
-pub by_list : (at : ℕ) (c : Chunk) → Info ≡ at_front at (role_of c) → (told at (cell_at at c)).content ≡ Listed (list_in c)
-by_list at c e = told_by at c (is_padding c && not (at == 12)) ∙ go (is_info c) (is_field c) (is_bext c) (is_data c) (is_padding c) (at == 12) refl refl (e ∙ front_by at (role_of c))
+wave_list : (at : ℕ) (c : Chunk) → Info ≡ at_front at (role_of c) → (told at (cell_at at c)).content ≡ Listed (list_in c)
+wave_list at c e = content_at at c (is_padding c && not (at == 12)) ∙ go (is_info c) (is_field c) (is_bext c) (is_data c) (is_padding c) (at == 12) refl refl (e ∙ front_by at (role_of c))
   where
     go : (l w b d p f : Bool) → is_info c ≡ l → is_padding c ≡ p → Info ≡ at_front_by f (role_by l w b d p) → (if p && not f then Gap else content_by c l b (at_front at (role_of c))) ≡ Listed (list_in c)
     go true w b d true f i j e = let n = (kinds c).no_list j in absurd cc
@@ -115,8 +116,8 @@ by_list at c e = told_by at c (is_padding c && not (at == 12)) ∙ go (is_info c
     go false false false false true false i j e = absurd cc
     go false false false false false f i j e = absurd cc
 
-pub by_bext : (at : ℕ) (c : Chunk) → Bext ≡ at_front at (role_of c) → (told at (cell_at at c)).content ≡ Body c.body
-by_bext at c e = told_by at c (is_padding c && not (at == 12)) ∙ go (is_info c) (is_field c) (is_bext c) (is_data c) (is_padding c) (at == 12) refl refl (e ∙ front_by at (role_of c))
+wave_bext : (at : ℕ) (c : Chunk) → Bext ≡ at_front at (role_of c) → (told at (cell_at at c)).content ≡ Body c.body
+wave_bext at c e = content_at at c (is_padding c && not (at == 12)) ∙ go (is_info c) (is_field c) (is_bext c) (is_data c) (is_padding c) (at == 12) refl refl (e ∙ front_by at (role_of c))
   where
     go : (l w b d p f : Bool) → is_bext c ≡ b → is_padding c ≡ p → Bext ≡ at_front_by f (role_by l w b d p) → (if p && not f then Gap else content_by c l b (at_front at (role_of c))) ≡ Body c.body
     go true w b d p f i j e = absurd cc
@@ -128,8 +129,8 @@ by_bext at c e = told_by at c (is_padding c && not (at == 12)) ∙ go (is_info c
     go false false false false true false i j e = absurd cc
     go false false false false false f i j e = absurd cc
 
-pub by_gap : (at : ℕ) (c : Chunk) → Padding ≡ at_front at (role_of c) → (told at (cell_at at c)).content ≡ Gap
-by_gap at c e = told_by at c (is_padding c && not (at == 12)) ∙ go (is_info c) (is_field c) (is_bext c) (is_data c) (is_padding c) (at == 12) (e ∙ front_by at (role_of c))
+wave_gap : (at : ℕ) (c : Chunk) → Padding ≡ at_front at (role_of c) → (told at (cell_at at c)).content ≡ Gap
+wave_gap at c e = content_at at c (is_padding c && not (at == 12)) ∙ go (is_info c) (is_field c) (is_bext c) (is_data c) (is_padding c) (at == 12) (e ∙ front_by at (role_of c))
   where
     go : (l w b d p f : Bool) → Padding ≡ at_front_by f (role_by l w b d p) → (if p && not f then Gap else content_by c l b (at_front at (role_of c))) ≡ Gap
     go true w b d p f e = absurd cc
@@ -140,8 +141,8 @@ by_gap at c e = told_by at c (is_padding c && not (at == 12)) ∙ go (is_info c)
     go false false false false true false e = refl
     go false false false false false f e = absurd cc
 
-pub by_other : (at : ℕ) (c : Chunk) (r : Role) → r ≡ at_front at (role_of c) → r ≢ Info → r ≢ Bext → r ≢ Padding → (told at (cell_at at c)).content ≡ Kept (four c.id) r
-by_other at c r e x y z = told_by at c (is_padding c && not (at == 12)) ∙ go (is_info c) (is_field c) (is_bext c) (is_data c) (is_padding c) (at == 12) refl refl refl refl (e ∙ front_by at (role_of c)) ∙ ap (Kept (four c.id)) (sym e)
+wave_other : (at : ℕ) (c : Chunk) (r : Role) → r ≡ at_front at (role_of c) → r ≢ Info → r ≢ Bext → r ≢ Padding → (told at (cell_at at c)).content ≡ Kept (four c.id) r
+wave_other at c r e x y z = content_at at c (is_padding c && not (at == 12)) ∙ go (is_info c) (is_field c) (is_bext c) (is_data c) (is_padding c) (at == 12) refl refl refl refl (e ∙ front_by at (role_of c)) ∙ ap (Kept (four c.id)) (sym e)
   where
     go : (l w b d p f : Bool) → is_field c ≡ w → is_bext c ≡ b → is_data c ≡ d → is_padding c ≡ p → r ≡ at_front_by f (role_by l w b d p) → (if p && not f then Gap else content_by c l b (at_front at (role_of c))) ≡ Kept (four c.id) (at_front at (role_of c))
     go true w b d p f h i k j e = absurd (x e)
@@ -155,11 +156,45 @@ by_other at c r e x y z = told_by at c (is_padding c && not (at == 12)) ∙ go (
     go false false false false true false h i k j e = absurd (z e)
     go false false false false false f h i k j e = refl
 
--- ---- a pad that lacks
+-- what is held of a chunk of its role
+wave_held : (at : ℕ) (c : Chunk) → held_by (wave_role at c) c ≡ (told at (cell_at at c)).content
+wave_held at c = go (wave_role at c) refl
+  where
+    go : (r : Role) → r ≡ wave_role at c → held_by r c ≡ (told at (cell_at at c)).content
+    go Info e = sym (wave_list at c e)
+    go Bext e = sym (wave_bext at c e)
+    go Padding e = sym (wave_gap at c e)
+    go Opaque e = sym (wave_other at c Opaque e (λ i. absurd cc) (λ i. absurd cc) (λ i. absurd cc))
+    go Whole e = sym (wave_other at c Whole e (λ i. absurd cc) (λ i. absurd cc) (λ i. absurd cc))
+    go Sizes e = sym (wave_other at c Sizes e (λ i. absurd cc) (λ i. absurd cc) (λ i. absurd cc))
+    go Tables e = sym (wave_other at c Tables e (λ i. absurd cc) (λ i. absurd cc) (λ i. absurd cc))
+    go UserData e = sym (wave_other at c UserData e (λ i. absurd cc) (λ i. absurd cc) (λ i. absurd cc))
+    go Essence e = sym (wave_other at c Essence e (λ i. absurd cc) (λ i. absurd cc) (λ i. absurd cc))
+    go Rest e = sym (wave_other at c Rest e (λ i. absurd cc) (λ i. absurd cc) (λ i. absurd cc))
 
-pad_by : (at : ℕ) (c : Chunk) (t : Bool) → (told at (cell_by c t)).lacks_pad ≡ lacks_pad c
-pad_by at c true = refl
-pad_by at c false = refl
+-- and of all chunks of a form
+pub wave_cells : (at : ℕ) (cs : List Chunk) → held_from wave_role at cs ≡ told_chunks at cs
+wave_cells at [] = refl
+wave_cells at (c ∷ cs) = ap (λ (x : CellAt). x ∷ held_from wave_role (at + length (spell c)) cs) (one (is_padding c && not (at == 12)) (wave_held at c)) ∙ ap (λ (xs : List CellAt). told at (cell_at at c) ∷ xs) (wave_cells (at + length (spell c)) cs)
+  where
+    one : (t : Bool) → held_by (wave_role at c) c ≡ (told at (cell_by c t)).content → held_at (wave_role at c) at c ≡ told at (cell_by c t)
+    one true h = ap (λ (x : Content). record { at = at; next = at + length (spell c); lacks_pad = lacks_pad c; content = x }) h
+    one false h = ap (λ (x : Content). record { at = at; next = at + length (spell c); lacks_pad = lacks_pad c; content = x }) h
+
+-- what is held of a chunk that is no list, no `bext` and no padding
+pub by_other : (c : Chunk) (r : Role) → r ≢ Info → r ≢ Bext → r ≢ Padding → held_by r c ≡ Kept (four c.id) r
+by_other c Info x y z = absurd (x refl)
+by_other c Bext x y z = absurd (y refl)
+by_other c Padding x y z = absurd (z refl)
+by_other c Opaque x y z = refl
+by_other c Whole x y z = refl
+by_other c Sizes x y z = refl
+by_other c Tables x y z = refl
+by_other c UserData x y z = refl
+by_other c Essence x y z = refl
+by_other c Rest x y z = refl
+
+-- ---- a pad that lacks
 
 next_is : (b : List ℕ) (at : ℕ) (c : Chunk) → StandsAt b at c → at + length (spell c) ≡ (at + 8 + length c.body) + length c.pad
 next_is b at c s =
@@ -173,7 +208,7 @@ same_pad n p = go (Rattle.std.proofs.lemmas.Bool.cases_lt p 1)
     go (inl lt) = let e : n + p ≡ n = omega arith in Rattle.std.proofs.Common.eq-eqb (n + p) n e ∙ sym (lt-ltb p 1 lt)
     go (inr le) = Rattle.std.proofs.lemmas.Bool.ne_eqb (n + p) n (λ e. omega arith) ∙ sym (le-ltb p 1 le)
 
-pub odd_pad : (b : List ℕ) (at : ℕ) (c : Chunk) (part : Part) (r : Role) → part ≡ part_as r at c → StandsAt b at c → part.body.len % 2 ≡ 1 → eqb part.next (part.body.at + part.body.len) ≡ (told at (cell_at at c)).lacks_pad
+pub odd_pad : (b : List ℕ) (at : ℕ) (c : Chunk) (part : Part) (r : Role) → part ≡ part_as r at c → StandsAt b at c → part.body.len % 2 ≡ 1 → eqb part.next (part.body.at + part.body.len) ≡ lacks_pad c
 odd_pad b at c part r e s odd =
     let len : part.body.len ≡ length c.body = ap (λ (p : Part). p.body.len) e in
     let place : part.body.at ≡ at + 8 = ap (λ (p : Part). p.body.at) e in
@@ -182,27 +217,22 @@ odd_pad b at c part r e s odd =
     let here : part.body.at + part.body.len ≡ at + 8 + length c.body = omega arith in
     let one : length c.body % 2 ≡ 1 = sym (ap (λ (n : ℕ). n % 2) len) ∙ odd in
     ap (λ (n : ℕ). eqb n (part.body.at + part.body.len)) ends_at ∙ ap (eqb ((at + 8 + length c.body) + length c.pad)) here ∙ same_pad (at + 8 + length c.body) (length c.pad)
-    ∙ ap (ltb (length c.pad)) (sym (s.padded ∙ one)) ∙ sym (pad_by at c (is_padding c && not (at == 12)))
+    ∙ ap (ltb (length c.pad)) (sym (s.padded ∙ one))
 
-pub even_pad : (b : List ℕ) (at : ℕ) (c : Chunk) (part : Part) (r : Role) → part ≡ part_as r at c → StandsAt b at c → (part.body.len % 2 ≡ 1 → ⊥) → eqb (part.body.len % 2) 1 ≡ (told at (cell_at at c)).lacks_pad
+pub even_pad : (b : List ℕ) (at : ℕ) (c : Chunk) (part : Part) (r : Role) → part ≡ part_as r at c → StandsAt b at c → (part.body.len % 2 ≡ 1 → ⊥) → eqb (part.body.len % 2) 1 ≡ lacks_pad c
 even_pad b at c part r e s even =
     let len : part.body.len ≡ length c.body = ap (λ (p : Part). p.body.len) e in
     let same : length c.body % 2 ≡ part.body.len % 2 = sym (ap (λ (n : ℕ). n % 2) len) in
     let none : pad_len c.form (length c.body) ≡ 0 = omega (arith, s.padded, same, even) in
-    Rattle.std.proofs.lemmas.Bool.ne_eqb (part.body.len % 2) 1 even ∙ sym (le-ltb (length c.pad) 0 (omega arith)) ∙ ap (ltb (length c.pad)) (sym none) ∙ sym (pad_by at c (is_padding c && not (at == 12)))
+    Rattle.std.proofs.lemmas.Bool.ne_eqb (part.body.len % 2) 1 even ∙ sym (le-ltb (length c.pad) 0 (omega arith)) ∙ ap (ltb (length c.pad)) (sym none)
 
 -- ---- a cell
 
-pub cell_is : (at : ℕ) (c : Chunk) (part : Part) (r : Role) (lacks : Bool) (content : Content) → part ≡ part_as r at c → lacks ≡ (told at (cell_at at c)).lacks_pad → content ≡ (told at (cell_at at c)).content
-    → record { at = at; next = part.next; lacks_pad = lacks; content = content } ≡ told at (cell_at at c)
-cell_is at c part r lacks content e l k = go (is_padding c && not (at == 12)) l k
-  where
-    next : part.next ≡ at + length (spell c)
-    next = ap (λ (p : Part). p.next) e
-
-    go : (t : Bool) → lacks ≡ (told at (cell_by c t)).lacks_pad → content ≡ (told at (cell_by c t)).content → record { at = at; next = part.next; lacks_pad = lacks; content = content } ≡ told at (cell_by c t)
-    go true l k = rw (next, l, k) refl
-    go false l k = rw (next, l, k) refl
+pub cell_is : (at : ℕ) (c : Chunk) (part : Part) (r : Role) (lacks : Bool) (content : Content) → part ≡ part_as r at c → lacks ≡ lacks_pad c → content ≡ held_by r c
+    → record { at = at; next = part.next; lacks_pad = lacks; content = content } ≡ held_at r at c
+cell_is at c part r lacks content e l k =
+    let next : part.next ≡ at + length (spell c) = ap (λ (p : Part). p.next) e in
+    rw (next, l, k) refl
 
 pub body_is : (b : List ℕ) (at : ℕ) (c : Chunk) (part : Part) (r : Role) → part ≡ part_as r at c → StandsAt b at c → c.body ≡ slice b part.body.at part.body.len
 body_is b at c part r e s = s.body ∙ ap (λ (p : Part). slice b p.body.at p.body.len) (sym e)

@@ -22,7 +22,7 @@ use Rattle.unit_plan.specs.Shapes.{parts_in}
 use Rattle.edit_planner.specs.declared.cells.CellAt.{CellAt}
 use Rattle.edit_planner.specs.declared.cells.Content.{Content}
 use Rattle.edit_planner.specs.declared.cells.Content.TheVariants.{Kept, Body, Listed, Gap, Edited}
-use Rattle.edit_planner.specs.Cells.{content_of, list_in, part_count, told, told_row, Unmet}
+use Rattle.edit_planner.specs.Cells.{content_of, list_in, part_count, told, told_by, told_row, told_row_by, Unmet}
 use Rattle.edit_planner.specs.Row.{is_gap, is_body, is_list, is_format, is_whole, is_field as names_whole, all_gaps, changed_row, count_row, new_at, stops, put_new}
 
 -- ---- what the tests see of a chunk
@@ -132,11 +132,11 @@ whole_told w f at c = go (is_info c) (is_bext c) refl refl
 
 -- ---- a change of cells
 
-pub record Fits (p : Chunk → Bool) (f : ℕ → Chunk → Change) (q : Content → Bool) (g : ℕ → CellAt → CellAt) : Type 0 where
-  pub met : (at : ℕ) (c : Chunk) → q (content_of at c) ≡ p c
+pub record Fits (held : ℕ → Chunk → Content) (p : Chunk → Bool) (f : ℕ → Chunk → Change) (q : Content → Bool) (g : ℕ → CellAt → CellAt) : Type 0 where
+  pub met : (at : ℕ) (c : Chunk) → q (held at c) ≡ p c
   pub gaps : q Gap ≡ false
   pub news : (now : List ℕ) (parts : ℕ) → q (Edited now parts) ≡ false
-  pub same : (at n : ℕ) (c : Chunk) → p c ≡ true → g n (told at (kept c)) ≡ told at (changed_cell (f n c) c)
+  pub same : (at n : ℕ) (c : Chunk) → p c ≡ true → g n (told_by held at (kept c)) ≡ told_by held at (changed_cell (f n c) c)
 
 was_changed : (d : Change) (c : Chunk) → was (changed_cell d c) ≡ c ∷ []
 was_changed leave c = refl
@@ -150,45 +150,45 @@ count_none : (p : Chunk → Bool) (n : ℕ) (cs : List Chunk) → AllByRecursion
 count_none p n [] h = refl
 count_none p n (c ∷ cs) h = rw (h.0, count_none p n cs h.1) refl
 
-pub settled : (p : Chunk → Bool) (f : ℕ → Chunk → Change) (q : Content → Bool) (g : ℕ → CellAt → CellAt) → Fits p f q g → (n at : ℕ) (xs : List Cell) → Unmet p xs
-    → told_row at (settle_cells p f n xs) ≡ changed_row q g n (told_row at xs)
-settled p f q g h n at [] u = refl
-settled p f q g h n at (kept c ∷ xs) u = go (p c) refl (λ m to. settled p f q g h m to xs u)
+pub settled : (held : ℕ → Chunk → Content) (p : Chunk → Bool) (f : ℕ → Chunk → Change) (q : Content → Bool) (g : ℕ → CellAt → CellAt) → Fits held p f q g → (n at : ℕ) (xs : List Cell) → Unmet p xs
+    → told_row_by held at (settle_cells p f n xs) ≡ changed_row q g n (told_row_by held at xs)
+settled held p f q g h n at [] u = refl
+settled held p f q g h n at (kept c ∷ xs) u = go (p c) refl (λ m to. settled held p f q g h m to xs u)
   where
-    go : (t : Bool) → p c ≡ t → ((m to : ℕ) → told_row to (settle_cells p f m xs) ≡ changed_row q g m (told_row to xs))
-        → told at (changed_cell (if t then f n c else leave) c) ∷ told_row (at + length (spell_all (was (changed_cell (if t then f n c else leave) c)))) (settle_cells p f (if t then suc n else n) xs)
-        ≡ changed_row q g n (told at (kept c) ∷ told_row (at + length (spell_all (c ∷ []))) xs)
+    go : (t : Bool) → p c ≡ t → ((m to : ℕ) → told_row_by held to (settle_cells p f m xs) ≡ changed_row q g m (told_row_by held to xs))
+        → told_by held at (changed_cell (if t then f n c else leave) c) ∷ told_row_by held (at + length (spell_all (was (changed_cell (if t then f n c else leave) c)))) (settle_cells p f (if t then suc n else n) xs)
+        ≡ changed_row q g n (told_by held at (kept c) ∷ told_row_by held (at + length (spell_all (c ∷ []))) xs)
     go true e again =
-        let one : q (content_of at c) ≡ true = h.met at c ∙ e in
+        let one : q (held at c) ≡ true = h.met at c ∙ e in
         let next : n + 1 ≡ suc n = omega arith in
         rw (one, was_changed (f n c) c, again (suc n) (at + length (spell_all (c ∷ []))), next, h.same at n c e) refl
     go false e again =
-        let one : q (content_of at c) ≡ false = h.met at c ∙ e in
+        let one : q (held at c) ≡ false = h.met at c ∙ e in
         rw (one, again n (at + length (spell_all (c ∷ [])))) refl
-settled p f q g h n at (gap c ∷ xs) u = rw (h.gaps, settled p f q g h n (at + length (spell_all (c ∷ []))) xs u) refl
-settled p f q g h n at (edited old now ∷ xs) u =
-    rw (h.news (spell_all now) (parts_in part_count now), settle_none p f n now u.0, count_none p n now u.0, settled p f q g h n (at + length (spell_all old)) xs u.1) refl
+settled held p f q g h n at (gap c ∷ xs) u = rw (h.gaps, settled held p f q g h n (at + length (spell_all (c ∷ []))) xs u) refl
+settled held p f q g h n at (edited old now ∷ xs) u =
+    rw (h.news (spell_all now) (parts_in part_count now), settle_none p f n now u.0, count_none p n now u.0, settled held p f q g h n (at + length (spell_all old)) xs u.1) refl
 
 -- whether some chunk meets the test
 any_append : (p : Chunk → Bool) (a b : List Chunk) → AllByRecursion (λ c. p c ≡ false) a → list_any p (a ++ b) ≡ list_any p b
 any_append p [] b h = refl
 any_append p (c ∷ a) b h = rw h.0 (any_append p a b h.1)
 
-pub some_told : (p : Chunk → Bool) (f : ℕ → Chunk → Change) (q : Content → Bool) (g : ℕ → CellAt → CellAt) → Fits p f q g → (at : ℕ) (xs : List Cell) → Unmet p xs
-    → list_any p (flat_map live xs) ≡ nat_lt 0 (count_row q (told_row at xs))
-some_told p f q g h at [] u = refl
-some_told p f q g h at (kept c ∷ xs) u = go (p c) refl (some_told p f q g h (at + length (spell_all (c ∷ []))) xs u)
+pub some_told : (held : ℕ → Chunk → Content) (p : Chunk → Bool) (f : ℕ → Chunk → Change) (q : Content → Bool) (g : ℕ → CellAt → CellAt) → Fits held p f q g → (at : ℕ) (xs : List Cell) → Unmet p xs
+    → list_any p (flat_map live xs) ≡ nat_lt 0 (count_row q (told_row_by held at xs))
+some_told held p f q g h at [] u = refl
+some_told held p f q g h at (kept c ∷ xs) u = go (p c) refl (some_told held p f q g h (at + length (spell_all (c ∷ []))) xs u)
   where
-    go : (t : Bool) → p c ≡ t → list_any p (flat_map live xs) ≡ nat_lt 0 (count_row q (told_row (at + length (spell_all (c ∷ []))) xs))
-        → (t || list_any p (flat_map live xs)) ≡ nat_lt 0 (count_row q (told at (kept c) ∷ told_row (at + length (spell_all (c ∷ []))) xs))
+    go : (t : Bool) → p c ≡ t → list_any p (flat_map live xs) ≡ nat_lt 0 (count_row q (told_row_by held (at + length (spell_all (c ∷ []))) xs))
+        → (t || list_any p (flat_map live xs)) ≡ nat_lt 0 (count_row q (told_by held at (kept c) ∷ told_row_by held (at + length (spell_all (c ∷ []))) xs))
     go true e again =
-        let one : q (content_of at c) ≡ true = h.met at c ∙ e in
-        rw one (sym (lt-ltb 0 (count_row q (told_row (at + length (spell_all (c ∷ []))) xs) + 1) (omega arith)))
+        let one : q (held at c) ≡ true = h.met at c ∙ e in
+        rw one (sym (lt-ltb 0 (count_row q (told_row_by held (at + length (spell_all (c ∷ []))) xs) + 1) (omega arith)))
     go false e again =
-        let one : q (content_of at c) ≡ false = h.met at c ∙ e in
+        let one : q (held at c) ≡ false = h.met at c ∙ e in
         rw one again
-some_told p f q g h at (gap c ∷ xs) u = rw h.gaps (some_told p f q g h (at + length (spell_all (c ∷ []))) xs u)
-some_told p f q g h at (edited old now ∷ xs) u = rw (h.news (spell_all now) (parts_in part_count now)) (any_append p now (flat_map live xs) u.0 ∙ some_told p f q g h (at + length (spell_all old)) xs u.1)
+some_told held p f q g h at (gap c ∷ xs) u = rw h.gaps (some_told held p f q g h (at + length (spell_all (c ∷ []))) xs u)
+some_told held p f q g h at (edited old now ∷ xs) u = rw (h.news (spell_all now) (parts_in part_count now)) (any_append p now (flat_map live xs) u.0 ∙ some_told held p f q g h (at + length (spell_all old)) xs u.1)
 
 pub none_changed : (q : Content → Bool) (g : ℕ → CellAt → CellAt) (n : ℕ) (xs : List CellAt) → count_row q xs ≡ 0 → changed_row q g n xs ≡ xs
 none_changed q g n [] e = refl

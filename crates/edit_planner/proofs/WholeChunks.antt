@@ -21,7 +21,7 @@ use Rattle.unit_plan.specs.Shapes.{parts_in}
 use Rattle.edit_planner.specs.declared.cells.CellAt.{CellAt}
 use Rattle.edit_planner.specs.declared.cells.Content.{Content}
 use Rattle.edit_planner.specs.declared.cells.Content.TheVariants.{Edited}
-use Rattle.edit_planner.specs.Cells.{AreFine, IsFine, Follow, part_count, told, told_row, Unmet}
+use Rattle.edit_planner.specs.Cells.{AreFine, IsFine, Follow, content_of, part_count, told, told_row, Unmet}
 use Rattle.edit_planner.proofs.Row.{change_follows, put_follows}
 use Rattle.edit_planner.specs.Row.{is_whole, changed_row, count_row, edited_at, first_new, new_whole, new_at, put_new}
 use Rattle.edit_planner.proofs.Told.{Fits, Puts, settled, some_told, none_changed, inserted, whole_told, fresh_at}
@@ -29,7 +29,7 @@ use Rattle.edit_planner.proofs.Told.{Fits, Puts, settled, some_told, none_change
 pub change : List ℕ → Option Value → ℕ → CellAt → CellAt
 change w v n x = edited_at x (first_new (new_whole w v) n)
 
-whole_fits : (w : List ℕ) (v : Option Value) → one_of whole_ids w ≡ true → Fits (is_field w) (first_becomes (new_whole w v)) (is_whole w) (λ n x. edited_at x (first_new (new_whole w v) n))
+whole_fits : (w : List ℕ) (v : Option Value) → one_of whole_ids w ≡ true → Fits content_of (is_field w) (first_becomes (new_whole w v)) (is_whole w) (λ n x. edited_at x (first_new (new_whole w v) n))
 whole_fits w v f = record {
   met = whole_told w f;
   gaps = refl;
@@ -67,12 +67,12 @@ pub wholes_changed : (w : List ℕ) (v : Option Value) → one_of whole_ids w �
     → 0 < count_row (is_whole w) ys → changed_row (is_whole w) (λ n x. edited_at x (first_new (new_whole w v) n)) 0 ys ≡ told_row from (acted_cells (whole_by w (Some v) (some_chunk (is_field w) (flat_map live xs))) xs)
 wholes_changed w v f from xs ys u e some =
     ap (changed_row (is_whole w) (λ n x. edited_at x (first_new (new_whole w v) n)) 0) e
-    ∙ sym (settled (is_field w) (first_becomes (new_whole w v)) (is_whole w) (λ n x. edited_at x (first_new (new_whole w v) n)) (whole_fits w v f) 0 from xs u)
+    ∙ sym (settled content_of (is_field w) (first_becomes (new_whole w v)) (is_whole w) (λ n x. edited_at x (first_new (new_whole w v) n)) (whole_fits w v f) 0 from xs u)
     ∙ go v (some_chunk (is_field w) (flat_map live xs)) there
   where
     there : some_chunk (is_field w) (flat_map live xs) ≡ true
     there =
-        some_told (is_field w) (first_becomes (new_whole w v)) (is_whole w) (λ n x. edited_at x (first_new (new_whole w v) n)) (whole_fits w v f) from xs u
+        some_told content_of (is_field w) (first_becomes (new_whole w v)) (is_whole w) (λ n x. edited_at x (first_new (new_whole w v) n)) (whole_fits w v f) from xs u
         ∙ ap (λ (zs : List CellAt). nat_lt 0 (count_row (is_whole w) zs)) (sym e) ∙ Rattle.std.proofs.lemmas.Bool.lt-ltb 0 (count_row (is_whole w) ys) some
 
     go : (v : Option Value) (t : Bool) → t ≡ true → told_row from (settle_cells (is_field w) (first_becomes (new_whole w v)) 0 xs) ≡ told_row from (acted_cells (whole_by w (Some v) t) xs)
@@ -85,7 +85,7 @@ pub wholes_none : (w : List ℕ) (v : Option Value) (from : ℕ) (xs : List Cell
     → changed_row (is_whole w) (λ n x. edited_at x (first_new (new_whole w v) n)) 0 ys ≡ told_row from (acted_cells (whole_by w (Some v) (some_chunk (is_field w) (flat_map live xs))) xs)
 wholes_none w v from xs ys i f u e = rw i (
     ap (changed_row (is_whole w) (λ n x. edited_at x (first_new [] n)) 0) e
-    ∙ sym (settled (is_field w) (first_becomes []) (is_whole w) (λ n x. edited_at x (first_new [] n)) (whole_fits w None f) 0 from xs u))
+    ∙ sym (settled content_of (is_field w) (first_becomes []) (is_whole w) (λ n x. edited_at x (first_new [] n)) (whole_fits w None f) 0 from xs u))
 
 -- there is none, and a new one stands last
 new_behind : (w : List ℕ) (v : Value) (from : ℕ) (xs : List Cell) (ys zs : List CellAt) (now : List ℕ) → one_of whole_ids w ≡ true → Unmet (is_field w) xs → ys ≡ told_row from xs → count_row (is_whole w) ys ≡ 0
@@ -99,7 +99,7 @@ new_behind w v from xs ys zs now f u e none c i =
   where
     there : some_chunk (is_field w) (flat_map live xs) ≡ false
     there =
-        some_told (is_field w) (first_becomes (new_whole w (Some v))) (is_whole w) (λ n x. edited_at x (first_new (new_whole w (Some v)) n)) (whole_fits w (Some v) f) from xs u
+        some_told content_of (is_field w) (first_becomes (new_whole w (Some v))) (is_whole w) (λ n x. edited_at x (first_new (new_whole w (Some v)) n)) (whole_fits w (Some v) f) from xs u
         ∙ ap (λ (zs : List CellAt). nat_lt 0 (count_row (is_whole w) zs)) (sym e) ∙ ap (nat_lt 0) none
 
     one : parts_in part_count (made w v.raw ∷ []) ≡ 1

@@ -27,8 +27,8 @@ use Rattle.edit_planner.specs.declared.cells.Content.TheVariants.{Kept, Body, Li
 abbrev pub list_in : Chunk → InfoList
 list_in c = record { items = map item_of (list_run c).chunks; rest = (list_run c).left }
 
--- a chunk that is kept: a list by its items, `bext` by its body, and any other by its identifier and what it is to an
--- edit
+-- a chunk of a WAVE or RF64 file that is kept: a list by its items, `bext` by its body, and any other by its identifier
+-- and what it is to an edit
 abbrev pub content_of : ℕ → Chunk → Content
 content_of at c =
     if is_info c then Listed (list_in c)
@@ -43,17 +43,24 @@ part_count c = length (parts_of c)
 abbrev pub edited_as : List Chunk → Content
 edited_as now = Edited (spell_all now) (parts_in part_count now)
 
--- a cell at a place of the file
-abbrev pub told : ℕ → Cell → CellAt
-told at (kept c) = record { at = at; next = at + length (spell c); lacks_pad = lacks_pad c; content = content_of at c }
-told at (gap c) = record { at = at; next = at + length (spell c); lacks_pad = lacks_pad c; content = Gap }
-told at (edited old now) =
+-- a cell at a place of the file, where a chunk that is kept is held so
+abbrev pub told_by : (ℕ → Chunk → Content) → ℕ → Cell → CellAt
+told_by held at (kept c) = record { at = at; next = at + length (spell c); lacks_pad = lacks_pad c; content = held at c }
+told_by held at (gap c) = record { at = at; next = at + length (spell c); lacks_pad = lacks_pad c; content = Gap }
+told_by held at (edited old now) =
     record { at = at; next = at + length (spell_all old); lacks_pad = false; content = edited_as now }
 
 -- cells that follow each other from a place on
+abbrev pub told_row_by : (ℕ → Chunk → Content) → ℕ → List Cell → List CellAt
+told_row_by held at [] = []
+told_row_by held at (x ∷ xs) = told_by held at x ∷ told_row_by held (at + length (spell_all (was x))) xs
+
+-- the same in a WAVE or RF64 file
+abbrev pub told : ℕ → Cell → CellAt
+told at x = told_by content_of at x
+
 abbrev pub told_row : ℕ → List Cell → List CellAt
-told_row at [] = []
-told_row at (x ∷ xs) = told at x ∷ told_row (at + length (spell_all (was x))) xs
+told_row at xs = told_row_by content_of at xs
 
 -- ---- cells where something is edited
 

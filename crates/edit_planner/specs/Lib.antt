@@ -9,3 +9,7 @@ pub mod Facts
 pub mod MoovMap
 pub mod MoovAtoms
 pub mod Movie
+pub mod Tops
+pub mod TablesAt
+pub mod Avi
+pub mod AviPlaces

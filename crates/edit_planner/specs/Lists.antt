@@ -5,13 +5,15 @@ use Rattle.std.specs.List.{AllByRecursion}
 use Rattle.part_tree.specs.Letters.{four}
 use Rattle.part_tree.specs.Names.{info_ids}
 use Rattle.container_model.specs.Chunk.{Chunk}
+use Rattle.container_model.specs.Units.{Cell}
 use Rattle.container_model.specs.Deep.{Token}
 use Rattle.container_model.specs.Items.{Item, has_mark, put_all}
-use Rattle.carrier_model.specs.Info.{info_items, list_of, one_of}
+use Rattle.carrier_model.specs.Cells.{Test, behind, insert_cell}
+use Rattle.carrier_model.specs.Info.{info, info_items, list_of, one_of}
 use Rattle.part_tree.specs.Large.{Size, limited, first_above}
-use Rattle.carrier_model.specs.Lists.{some_hold, first_holder, sets_some}
+use Rattle.carrier_model.specs.Lists.{edit_list_cells, some_hold, first_holder, sets_some}
 use Rattle.wave_model.specs.Fields.{is_info}
-use Rattle.edit_planner.specs.Cells.{edited_as}
+use Rattle.edit_planner.specs.Cells.{edited_as, list_in, told_row_by}
 use Rattle.info_list.specs.Info.{chunks_of, tokens_of}
 use Rattle.info_list.specs.declared.InfoList.{InfoList}
 use Rattle.edit_planner.specs.declared.cells.CellAt.{CellAt}
@@ -127,6 +129,20 @@ IsNewList e (Some content) = (sets_some e ≡ true) × (content ≡ edited_as (f
 -- the length of a new list, where there is one
 abbrev pub new_sizes : List (Item (List ℕ)) → List Size
 new_sizes e = if sets_some e then limited (2 ^ 24) (length (fresh_list e).body) ∷ [] else []
+
+-- ---- a row of cells
+
+-- A list of INFO items is held by its items, and no other chunk as a list.
+pub record HoldsLists (held : ℕ → Chunk → Content) : Type 0 where
+  pub lists : (at : ℕ) (c : Chunk) → is_info c ≡ true → held at c ≡ Listed (list_in c)
+  pub others : (at : ℕ) (c : Chunk) → is_list (held at c) ≡ is_info c
+
+-- The row after an edit of lists: with all of it, or but for a new list, which stands behind the first chunk that meets a test.
+abbrev pub Edits : (ℕ → Chunk → Content) → Test → ℕ → List (Item (List ℕ)) → List Cell → List CellAt → Option Content → Type 0
+Edits held t from e xs row None = row ≡ told_row_by held from (edit_list_cells info info_items t e xs)
+Edits held t from e xs row (Some content) =
+    (row ≡ told_row_by held from xs) × (content ≡ edited_as (fresh_list e ∷ []))
+    × (edit_list_cells info info_items t e xs ≡ insert_cell behind t (fresh_list e) xs)
 
 -- ---- the lists of the model
 

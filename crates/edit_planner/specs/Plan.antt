@@ -80,7 +80,7 @@ streams_in (Mov m) = 0
 -- why files of its kind aren't edited yet
 abbrev pub unbuilt_in : FileMap → Option Why
 unbuilt_in (Wave m) = None
-unbuilt_in (Avi m) = Some NotBuilt
+unbuilt_in (Avi m) = None
 unbuilt_in (Mov m) = None
 
 -- the kind that it tells

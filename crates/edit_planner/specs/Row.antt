@@ -116,6 +116,18 @@ starts_at from zero xs = from
 starts_at from (suc k) [] = from
 starts_at from (suc k) (x ∷ xs) = starts_at x.next k xs
 
+-- a new cell directly behind that of a number
+abbrev pub put_after : (ℕ → CellAt) → ℕ → List CellAt → List CellAt
+put_after new k [] = []
+put_after new zero (x ∷ xs) = x ∷ new x.next ∷ xs
+put_after new (suc k) (x ∷ xs) = x ∷ put_after new k xs
+
+-- a row of which the chunk in the cell of a number lacks its pad, or doesn't
+abbrev pub with_pad : Bool → ℕ → List CellAt → List CellAt
+with_pad lacks k [] = []
+with_pad lacks zero (x ∷ xs) = record x { lacks_pad = lacks } ∷ xs
+with_pad lacks (suc k) (x ∷ xs) = x ∷ with_pad lacks k xs
+
 -- ---- chunks that are fields as a whole
 
 -- the chunk of a value, if there is one

@@ -3,7 +3,7 @@ ghost use Rattle.std.specs.Prelude.{◌≡◌, ◌≤◌, ◌<◌, ◌^◌, ◌�
 ghost use Rattle.std.specs.Str.{bytes_eq};
 ghost use Rattle.container_model.specs.Chunk.{spell};
 ghost use Rattle.carrier_model.specs.Info.{made};
-ghost use Rattle.edit_planner.specs.Row.{is_body as holds_body, is_field as names_field, is_format as holds_format, is_gap as holds_gap, is_list as holds_list, is_whole as holds_whole, new_at, place_for as place_in, put_new, starts_at};
+ghost use Rattle.edit_planner.specs.Row.{is_body as holds_body, is_field as names_field, is_format as holds_format, is_gap as holds_gap, is_list as holds_list, is_whole as holds_whole, new_at, place_for as place_in, put_after, put_new, starts_at, with_pad};
 
 use info_list::InfoList;
 use me_bytes::put_le32;
@@ -148,6 +148,32 @@ pub fn put_cell(
         Err(_) => Err(NoMemory),
         Ok(()) => Ok(()),
     }
+}
+
+/// Puts a new cell into a row, directly behind that of a number.
+pub fn put_behind(cells: &mut Vec<CellAt>, k: usize, content: Content) -> Result<(), NoMemory>
+    requires { k < length cells.old.items }
+    ensures { OnOk result (cells.new.items ≡ put_after (new_at content) k cells.old.items) }
+{
+    let at = cells[k].next;
+    let cell = CellAt {
+        at,
+        next: at,
+        lacks_pad: false,
+        content,
+    };
+    match cells.insert(k + 1, cell) {
+        Err(_) => Err(NoMemory),
+        Ok(()) => Ok(()),
+    }
+}
+
+/// Tells anew whether the chunk in the cell of a number lacks its pad byte.
+pub fn set_pad(cells: &mut Vec<CellAt>, k: usize, lacks_pad: bool)
+    requires { k < length cells.old.items }
+    ensures { cells.new.items ≡ with_pad lacks_pad k cells.old.items }
+{
+    cells[k].lacks_pad = lacks_pad;
 }
 
 /// The chunk of an identifier and a body, with a pad of 0 where the body's length is odd.

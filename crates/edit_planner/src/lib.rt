@@ -7,11 +7,14 @@ ghost use Rattle.field_model.specs.Kind.{IsKind};
 ghost use Rattle.edit_planner.specs.Kinds.{model_in};
 
 mod atoms;
+mod avi;
+mod avi_plans;
 mod bext;
 mod carried;
 mod cells;
 mod edit;
 mod facts;
+mod head;
 mod kinds;
 mod lists;
 mod load;
@@ -19,8 +22,10 @@ mod moov;
 mod movie;
 mod places;
 mod plans;
+mod tables;
 #[cfg(test)]
 mod tests;
+mod tops;
 mod wave;
 mod wholes;
 

@@ -5,7 +5,7 @@ ghost use Rattle.container_model.specs.Chunk.{Chunk};
 ghost use Rattle.container_model.specs.Units.{Cell, live};
 ghost use Rattle.container_model.specs.Deep.{Token};
 ghost use Rattle.container_model.specs.Items.{has_mark, put_all};
-ghost use Rattle.carrier_model.specs.Cells.{never};
+ghost use Rattle.carrier_model.specs.Cells.{Test, never};
 ghost use Rattle.carrier_model.specs.Info.{info, info_items, list_of};
 ghost use Rattle.part_tree.specs.Large.{limited};
 ghost use Rattle.carrier_model.specs.Lists.{edit_list_cells, edit_lists as edited_lists, home, sets_some, some_hold};
@@ -14,10 +14,11 @@ ghost use Rattle.info_list.specs.Changes.{changes_of};
 ghost use Rattle.info_list.specs.Info.{chunks_of, tokens_of};
 ghost use Rattle.wave_model.specs.Fields.{bodies, is_info};
 ghost use Rattle.wave_model.specs.Carry.{info_item, info_part, raw};
-ghost use Rattle.edit_planner.specs.Cells.{AreReadable, Follow, IsReadable, Unmet, edited_as, told_row};
+ghost use Rattle.edit_planner.specs.Cells.{AreReadable, Follow, IsReadable, Unmet, edited_as, told_row, told_row_by};
 ghost use Rattle.edit_planner.specs.Row.{changed_row, count_row, is_list as holds_list};
-ghost use Rattle.edit_planner.specs.Lists.{AreInfo, IsLarge, IsNewList, SmallLists, TellsLarge, new_sizes, all_marks, changed_list, concerned, home_from, homed_as, homed_of, list_edited, marks_in, lengths, part_in, size_in, sizes_in};
+ghost use Rattle.edit_planner.specs.Lists.{AreInfo, Edits, HoldsLists, IsLarge, IsNewList, SmallLists, TellsLarge, new_sizes, all_marks, changed_list, concerned, home_from, homed_as, homed_of, list_edited, marks_in, lengths, part_in, size_in, sizes_in};
 ghost use Rattle.edit_planner.specs.declared.cells.CellAt.{CellAt};
+ghost use Rattle.edit_planner.specs.declared.cells.Content.{Content as Held};
 
 use crate::cells::{CellAt, Content, is_list, put_cell};
 use bext_fields::RawChange;
@@ -75,8 +76,8 @@ fn home_of(cells: &[CellAt], id: &FourCc) -> usize
     0
 }
 
-// The same bytes.
-fn raw_of(alloc: Global, value: &Option<Value>) -> Result<Option<Bytes>, NoMemory>
+/// The bytes of a value.
+pub fn raw_of(alloc: Global, value: &Option<Value>) -> Result<Option<Bytes>, NoMemory>
     ensures { IfOk result (λ r. r ≡ option_map raw value.now) }
 {
     let Some(value) = value else {
@@ -310,6 +311,40 @@ fn new_list(alloc: Global, homed: &[Homed]) -> Result<Option<Content>, ListsFaul
     }
 }
 
+/// Edits the lists of INFO items in a row of cells: each list that has an item of a changed field, or where such a field
+/// is at home. Where there is no list and a field is set, a new one is given, which is to be put into the row. `TooLarge`
+/// tells the first list whose body passes 16 MiB.
+pub fn change_or_new(
+    cells: &mut Vec<CellAt>,
+    alloc: Global,
+    changes: &[RawChange],
+) -> Result<Option<Content>, ListsFault>
+    requires readable { AreReadable cells.old.items }
+    ensures edits { IfOk result (λ new. (held : ℕ → Chunk → Held) (t : Test) (from : ℕ) (xs : List Cell)
+        → HoldsLists held → Unmet is_info xs → cells.old.items ≡ told_row_by held from xs
+        → Edits held t from (info_part (raw_items_of changes.now)) xs cells.new.items new) }
+    ensures large { (held : ℕ → Chunk → Held) (t : Test) (from : ℕ) (xs : List Cell) → HoldsLists held
+        → Unmet is_info xs → SmallLists (flat_map live xs) → cells.old.items ≡ told_row_by held from xs
+        → TellsLarge (lengths (bodies is_info
+        (edited_lists info info_items t (info_part (raw_items_of changes.now)) (flat_map live xs)))) result }
+    ensures follow { OnOk result ((from end : ℕ) → Follow from cells.old.items end
+        → Follow from cells.new.items end) }
+    ensures count { OnOk result (length cells.new.items ≡ length cells.old.items) }
+{
+    let homed = match homed_changes(alloc, cells, changes) {
+        Err(_) => return Err(ListsFault::Memory),
+        Ok(homed) => homed,
+    };
+    let count = match change_lists(cells, alloc, &homed) {
+        Err(fault) => return Err(fault),
+        Ok(count) => count,
+    };
+    if count > 0 {
+        return Ok(None);
+    }
+    new_list(alloc, &homed)
+}
+
 /// Edits the lists of INFO items in a row of cells that begins at the byte `from`: each list that has an item of a
 /// changed field, or where such a field is at home. Where there is no list and a field is set, a new one stands behind
 /// all but padding. `TooLarge` tells the first list whose body passes 16 MiB.
@@ -329,18 +364,7 @@ pub fn edit_lists(
         (edited_lists info info_items never (info_part (raw_items_of changes.now)) (flat_map live xs)))) result }
     ensures follow { OnOk result ((end : ℕ) → Follow from cells.old.items end → Follow from cells.new.items end) }
 {
-    let homed = match homed_changes(alloc, cells, changes) {
-        Err(_) => return Err(ListsFault::Memory),
-        Ok(homed) => homed,
-    };
-    let count = match change_lists(cells, alloc, &homed) {
-        Err(fault) => return Err(fault),
-        Ok(count) => count,
-    };
-    if count > 0 {
-        return Ok(());
-    }
-    let content = match new_list(alloc, &homed) {
+    let content = match change_or_new(cells, alloc, changes) {
         Err(fault) => return Err(fault),
         Ok(None) => return Ok(()),
         Ok(Some(content)) => content,

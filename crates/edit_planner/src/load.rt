@@ -1,14 +1,15 @@
-// The cells of a form, read from the parts of its map.
+// The cells of a form, read from its parts.
 ghost use Rattle.std.specs.Prelude.{◌≡◌, ◌≤◌, ◌<◌, ◌+◌, ◌^◌, ℕ, List, IfOk, length, Bool};
 ghost use Rattle.me_disk.specs.Causes.{Rose};
 ghost use Rattle.me_disk.specs.Steps.{ReadsOnly};
 ghost use Rattle.me_disk.specs.Holds.{Holds, Inside};
+ghost use Rattle.part_tree.specs.declared.part.Role.{Role};
 ghost use Rattle.container_model.specs.Chunk.{Chunk};
+ghost use Rattle.container_model.specs.Units.{lacks_pad as has_no_pad};
 ghost use Rattle.container_model.specs.Written.{slice};
-ghost use Rattle.container_model.specs.Walk.{along};
-ghost use Rattle.wave_file.specs.Map.{Ascend, at_front, part_as, part_at, role_of};
-ghost use Rattle.edit_planner.specs.Cells.{AreReadable, Follow, IsReadable, list_in, told};
-ghost use Rattle.edit_planner.specs.Stand.{StandFrom, StandsAt, cell_at, told_chunks};
+ghost use Rattle.wave_file.specs.Map.{Ascend, part_as};
+ghost use Rattle.edit_planner.specs.Cells.{AreReadable, Follow, IsReadable, list_in};
+ghost use Rattle.edit_planner.specs.Stand.{StandFrom, StandsAt, held_at, held_by, held_from, parts_from};
 
 use crate::cells::{CellAt, Content};
 use info_list::read_info;
@@ -98,8 +99,8 @@ fn load_content<D: Depot>(alloc: Global, depot: &mut D, part: &Part) -> Result<C
     requires inside { Inside (part.now.body.at + part.now.body.len) (D.disk depot.old) }
     requires small { part.now.body.at + part.now.body.len < 2 ^ 63 }
     ensures content { (b : List ℕ) → Holds (D.disk depot.old) b
-        → (at : ℕ) (c : Chunk) → part.now ≡ part_as (at_front at (role_of c)) at c → StandsAt b at c
-        → IfOk result (λ content. content ≡ (told at (cell_at at c)).content) }
+        → (role : Role) (at : ℕ) (c : Chunk) → part.now ≡ part_as role at c → StandsAt b at c
+        → IfOk result (λ content. content ≡ held_by role c) }
     ensures readable { IfOk result (λ content. IsReadable content) }
     ensures reads { ReadsOnly (D.disk depot.old) (D.disk depot.new) }
     ensures cause { result ≡ Err LoadFault.Depot → Rose (D.disk depot.old).faults (D.disk depot.new).faults }
@@ -118,8 +119,8 @@ fn load_content<D: Depot>(alloc: Global, depot: &mut D, part: &Part) -> Result<C
 // Whether a part has a body of odd length and no pad byte.
 fn lacks_pad(part: &Part) -> bool
     requires { part.now.body.at + part.now.body.len < 2 ^ 63 }
-    ensures pad { (b : List ℕ) (at : ℕ) (c : Chunk) → part.now ≡ part_as (at_front at (role_of c)) at c
-        → StandsAt b at c → result ≡ (told at (cell_at at c)).lacks_pad }
+    ensures pad { (b : List ℕ) (role : Role) (at : ℕ) (c : Chunk) → part.now ≡ part_as role at c
+        → StandsAt b at c → result ≡ has_no_pad c }
 {
     part.body.len % 2 == 1 && part.next == part.body.at + part.body.len
 }
@@ -134,8 +135,8 @@ fn load_cell<D: Depot>(
     requires inside { Inside (part.now.body.at + part.now.body.len) (D.disk depot.old) }
     requires small { part.now.body.at + part.now.body.len < 2 ^ 63 }
     ensures cell { (b : List ℕ) → Holds (D.disk depot.old) b
-        → (c : Chunk) → part.now ≡ part_as (at_front at (role_of c)) at c → StandsAt b at c
-        → IfOk result (λ cell. cell ≡ told at (cell_at at c)) }
+        → (role : Role) (c : Chunk) → part.now ≡ part_as role at c → StandsAt b at c
+        → IfOk result (λ cell. cell ≡ held_at role at c) }
     ensures place { IfOk result (λ cell. (cell.at ≡ at) × (cell.next ≡ part.now.next)) }
     ensures readable { IfOk result (λ cell. IsReadable cell.content) }
     ensures reads { ReadsOnly (D.disk depot.old) (D.disk depot.new) }
@@ -173,8 +174,8 @@ pub fn load_cells<D: Depot>(
     requires inside { Inside form_end (D.disk depot.old) }
     requires small { form_end < 2 ^ 63 }
     ensures cells { (b : List ℕ) → Holds (D.disk depot.old) b
-        → (cs : List Chunk) → parts.now ≡ along part_at from cs → StandFrom b from cs
-        → IfOk result (λ l. l.cells.items ≡ told_chunks from cs) }
+        → (role : ℕ → Chunk → Role) (cs : List Chunk) → parts.now ≡ parts_from role from cs → StandFrom b from cs
+        → IfOk result (λ l. l.cells.items ≡ held_from role from cs) }
     ensures follow { IfOk result (λ l. Follow from l.cells.items l.end) }
     ensures end { IfOk result (λ l. (from ≤ l.end) × (l.end ≤ form_end)) }
     ensures readable { IfOk result (λ l. AreReadable l.cells.items) }

@@ -28,7 +28,7 @@ load_cell-requires-clause-small g c =
     omega (arith, next.2, last, c.requires.small)
 
 pub returns-clause-cells : goal.returns-clause-cells
-returns-clause-cells g c = λ b holds cs e s. all_loaded b c.args.from cs c.parts.at c.parts.part-index c.args.parts.now c.parts.cells.items (c.parts.invariant.cells b holds cs e s) (omega arith)
+returns-clause-cells g c = λ b holds role cs e s. all_loaded role b c.args.from cs c.parts.at c.parts.part-index c.args.parts.now c.parts.cells.items (c.parts.invariant.cells b holds role cs e s) (omega arith)
 
 pub parts-preserved : goal.parts-preserved
 parts-preserved g c =
@@ -45,10 +45,10 @@ parts-preserved g c =
       follow = subst (λ (n : ℕ). Follow c.args.from c.push.new.self.items n) cell.place.1 (subst (λ (xs : List CellAt). Follow c.args.from xs c.in-Ok.cell.next) (sym c.in-Ok-push.ensures.items) (follow_more c.args.from c.parts.cells.items c.parts.at c.in-Ok.cell before.follow cell.place.0 forth));
       begins = omega (arith, before.begins, forth, cell.place.1);
       readable = subst AreReadable (sym c.in-Ok-push.ensures.items) (readable_push c.parts.cells.items c.in-Ok.cell before.readable cell.readable);
-      cells = λ b holds cs e s.
-          let left = before.cells b holds cs e s in
-          let here = next_chunk b c.args.from cs c.parts.at k parts c.parts.cells.items part no_part left lt refl in
+      cells = λ b holds role cs e s.
+          let left = before.cells b holds role cs e s in
+          let here = next_chunk role b c.args.from cs c.parts.at k parts c.parts.cells.items part no_part left lt refl in
           let now : Holds (g.D.Depot.disk c.parts.depot) b = holds_on (g.D.Depot.disk c.args.depot.now) (g.D.Depot.disk c.parts.depot) b before.reads holds in
-          one_loaded b c.args.from cs c.parts.at k part.next parts c.parts.cells.items c.push.new.self.items part no_part c.in-Ok.cell left lt refl here refl (cell.cell b now here.chunk here.is_part here.stands) c.in-Ok-push.ensures.items;
+          one_loaded role b c.args.from cs c.parts.at k part.next parts c.parts.cells.items c.push.new.self.items part no_part c.in-Ok.cell left lt refl here refl (cell.cell b now (role c.parts.at here.chunk) here.chunk here.is_part here.stands) c.in-Ok-push.ensures.items;
       reads = search rules;
     }

@@ -2,10 +2,10 @@ use Rattle.std.proofs.Common.{◌≡◌, ◌≤◌, List, ℕ, drop}
 use Rattle.me_disk.specs.Steps.{ReadsOnly}
 use Rattle.me_disk.specs.Holds.{Holds}
 use Rattle.container_model.specs.Chunk.{Chunk}
-use Rattle.container_model.specs.Walk.{along}
-use Rattle.wave_file.specs.Map.{Ascend, part_at}
+use Rattle.part_tree.specs.declared.part.Role.{Role}
+use Rattle.wave_file.specs.Map.{Ascend}
 use Rattle.edit_planner.specs.Cells.{AreReadable, Follow}
-use Rattle.edit_planner.specs.Stand.{StandFrom}
+use Rattle.edit_planner.specs.Stand.{StandFrom, parts_from}
 use Rattle.edit_planner.proofs.Loads.{LoadLeft}
 use Rattle.edit_planner.proofs.load.load_cells.Given as goal
 
@@ -16,6 +16,6 @@ invariant-parts g l = record {
   follow : Follow l.from l.cells.items l.at;
   begins : l.from ≤ l.at;
   readable : AreReadable l.cells.items;
-  cells : (b : List ℕ) → Holds (g.D.Depot.disk l.fn.depot) b → (cs : List Chunk) → l.parts ≡ along part_at l.from cs → StandFrom b l.from cs → LoadLeft b l.from cs l.at l.part-index l.parts l.cells.items;
+  cells : (b : List ℕ) → Holds (g.D.Depot.disk l.fn.depot) b → (role : ℕ → Chunk → Role) (cs : List Chunk) → l.parts ≡ parts_from role l.from cs → StandFrom b l.from cs → LoadLeft role b l.from cs l.at l.part-index l.parts l.cells.items;
   reads : ReadsOnly (g.D.Depot.disk l.fn.depot) (g.D.Depot.disk l.depot);
 }

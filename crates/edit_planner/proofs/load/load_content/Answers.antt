@@ -1,25 +1,25 @@
 use Rattle.std.proofs.Common.{◌≡◌, ◌∙◌, sym, ap}
 use Rattle.part_tree.specs.declared.part.Part.{Part}
-use Rattle.edit_planner.specs.declared.cells.Content.TheVariants.{Kept, Body, Listed}
-use Rattle.edit_planner.specs.Cells.{list_in, told}
-use Rattle.edit_planner.specs.Stand.{cell_at}
-use Rattle.edit_planner.proofs.Stands.{by_list, by_bext, by_gap, by_other, body_is, if_ok}
+use Rattle.part_tree.specs.declared.part.Role.{Role}
+use Rattle.edit_planner.specs.declared.cells.Content.TheVariants.{Body, Kept, Listed}
+use Rattle.edit_planner.specs.Cells.{list_in}
+use Rattle.edit_planner.specs.Stand.{held_by}
+use Rattle.edit_planner.proofs.Stands.{body_is, by_other, if_ok}
 use Rattle.edit_planner.proofs.load.load_content.Goals as goal
 
 pub returns-in-Info-clause-content : goal.returns-in-Info-clause-content
-returns-in-Info-clause-content g c = λ b holds at d e s.
-    let told_as = by_list at d (sym c.in-Info.is ∙ ap (λ (p : Part). p.role) e) in
-    if_ok (λ x. x ≡ Listed (list_in d)) (λ x. x ≡ (told at (cell_at at d)).content) c.load_list.result (λ x h. h ∙ sym told_as) (c.load_list.ensures.content b holds d (body_is b at d c.args.part.now _ e s))
+returns-in-Info-clause-content g c = λ b holds role at d e s.
+    let is = ap (λ (r : Role). held_by r d) (sym (ap (λ (p : Part). p.role) e) ∙ c.in-Info.is) in
+    if_ok (λ x. x ≡ Listed (list_in d)) (λ x. x ≡ held_by role d) c.load_list.result (λ x h. h ∙ sym is) (c.load_list.ensures.content b holds d (body_is b at d c.args.part.now role e s))
 
 pub returns-in-Bext-clause-content : goal.returns-in-Bext-clause-content
-returns-in-Bext-clause-content g c = λ b holds at d e s.
-    let told_as = by_bext at d (sym c.in-Bext.is ∙ ap (λ (p : Part). p.role) e) in
-    if_ok (λ x. x ≡ Body _) (λ x. x ≡ (told at (cell_at at d)).content) c.load_bext.result (λ x h. h ∙ ap Body (sym (body_is b at d c.args.part.now _ e s)) ∙ sym told_as) (c.load_bext.ensures.content b holds)
+returns-in-Bext-clause-content g c = λ b holds role at d e s.
+    let is = ap (λ (r : Role). held_by r d) (sym (ap (λ (p : Part). p.role) e) ∙ c.in-Bext.is) in
+    if_ok (λ x. x ≡ Body _) (λ x. x ≡ held_by role d) c.load_bext.result (λ x h. h ∙ ap Body (sym (body_is b at d c.args.part.now role e s)) ∙ sym is) (c.load_bext.ensures.content b holds)
 
 pub returns-in-Padding-clause-content : goal.returns-in-Padding-clause-content
-returns-in-Padding-clause-content g c = λ b holds at d e s. sym (by_gap at d (sym c.in-Padding.is ∙ ap (λ (p : Part). p.role) e))
+returns-in-Padding-clause-content g c = λ b holds role at d e s. sym (ap (λ (r : Role). held_by r d) (sym (ap (λ (p : Part). p.role) e) ∙ c.in-Padding.is))
 
 pub returns-in_default-clause-content : goal.returns-in_default-clause-content
-returns-in_default-clause-content g c = λ b holds at d e s.
-    sym
-    (by_other at d c.args.part.now.role (ap (λ (p : Part). p.role) e) c.in_default.not-Info c.in_default.not-Bext c.in_default.not-Padding ∙ ap (λ (p : Part). Kept p.id c.args.part.now.role) (sym e))
+returns-in_default-clause-content g c = λ b holds role at d e s.
+    ap (λ (p : Part). Kept p.id p.role) e ∙ sym (by_other d role (λ i. c.in_default.not-Info (ap (λ (p : Part). p.role) e ∙ i)) (λ i. c.in_default.not-Bext (ap (λ (p : Part). p.role) e ∙ i)) (λ i. c.in_default.not-Padding (ap (λ (p : Part). p.role) e ∙ i)))

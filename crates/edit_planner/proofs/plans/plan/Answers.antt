@@ -1,7 +1,7 @@
 use Rattle.std.proofs.Common.{rules, subst}
 use Rattle.field_model.specs.KindReads.{PlansKind}
 use Rattle.edit_planner.specs.Plan.{Maps}
-use Rattle.edit_planner.proofs.OfKind.{is_mov_file, is_read, of_mov, of_wave}
+use Rattle.edit_planner.proofs.OfKind.{avi_is_read, is_mov_file, is_read, of_avi, of_mov, of_wave}
 use Rattle.edit_planner.proofs.plans.plan.Goals as goal
 
 pub plan_wave-requires-clause-mapped : goal.plan_wave-requires-clause-mapped
@@ -9,6 +9,13 @@ plan_wave-requires-clause-mapped g c = λ b holds. let h : Maps b c.args.file.no
 
 pub plan_mov-requires-clause-mapped : goal.plan_mov-requires-clause-mapped
 plan_mov-requires-clause-mapped g c = λ b holds. let h : Maps b c.args.file.now = c.requires.mapped b holds in search rules
+pub plan_avi-requires-clause-mapped : goal.plan_avi-requires-clause-mapped
+plan_avi-requires-clause-mapped g c = λ b holds. let h : Maps b c.args.file.now = c.requires.mapped b holds in search rules
+
+pub returns-in-Avi-clause-plans : goal.returns-in-Avi-clause-plans
+returns-in-Avi-clause-plans g c = λ b holds bytes.
+    let mapped = subst (Maps b) c.in-Avi.is (c.requires.mapped b holds) in
+    of_avi (λ k. PlansKind k b c.args.edit.now c.plan_avi.result) b (avi_is_read b mapped.supported) (c.plan_avi.ensures.plans b holds bytes)
 
 pub returns-in-Wave-clause-plans : goal.returns-in-Wave-clause-plans
 returns-in-Wave-clause-plans g c = λ b holds bytes.
