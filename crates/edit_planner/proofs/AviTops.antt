@@ -134,7 +134,7 @@ streams_below at end [] h le = tt
 streams_below at end (c ∷ cs) h le = (
   omega (arith, le, spell_some c, length-append (spell c) (spell_all cs)),
   all_both (λ p. p.at < end) (if is_type (codes "strl") c then kid_parts stream_role at c ++ list_rest at c else []) (stream_parts (at + length (spell c)) cs) (go (is_type (codes "strl") c))
-  (streams_below (at + length (spell c)) end cs h.1 (omega (arith, le, length-append (spell c) (spell_all cs)))),
+      (streams_below (at + length (spell c)) end cs h.1 (omega (arith, le, length-append (spell c) (spell_all cs)))),
 )
   where
     go : (t : Bool) → AllByRecursion (λ p. p.at < end) (if t then kid_parts stream_role at c ++ list_rest at c else [])

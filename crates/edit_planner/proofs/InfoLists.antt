@@ -265,12 +265,11 @@ no_list held k t e from xs ys zs is same u told none c sets =
 pub new_lists : (held : ℕ → Chunk → Content) → HoldsLists held → (t : Test) (e : List (Item (List ℕ))) (from : ℕ) (xs : List Cell) (ys zs : List CellAt) (is : List Homed) (content : Content) → is ≡ homed_of (home (all_marks ys)) e → Unmet is_info xs
     → ys ≡ told_row_by held from xs → count_row is_list ys ≡ 0 → zs ≡ changed_row is_list (λ n x. list_edited is n x) 0 ys → IsNewList (part_in 0 is) (Some content) → Edits held t from e xs zs (Some content)
 new_lists held k t e from xs ys zs is content same u told none c new =
-    let part = whole_part_is e ys is same none in
-    (
+    let part = whole_part_is e ys is same none in (
       c ∙ none_changed is_list (λ n x. list_edited is n x) 0 ys none ∙ told,
       new.1 ∙ ap (λ (f : List (Item (List ℕ))). Edited (spell_all (fresh_list f ∷ [])) (parts_in part_count (fresh_list f ∷ []))) part,
       ap (λ (b : Bool). acted_cells (lists_act_by info info_items t e (flat_map live xs) b) xs) (some_lists held k (home []) e from xs ys u told ∙ ap (nat_lt 0) none)
-      ∙ ap (λ (b : Bool). acted_cells (new_carrier info info_items t e b) xs) (ap sets_some (sym part) ∙ new.0),
+          ∙ ap (λ (b : Bool). acted_cells (new_carrier info info_items t e b) xs) (ap sets_some (sym part) ∙ new.0),
     )
 
 -- what is answered where there is no list

@@ -182,6 +182,7 @@ some_mov (Some Mov) h = refl
 -- a supported movie is of the kind of movies
 pub is_mov_file : (o : List ℕ) → mov_why.why o ≡ None → kind_at o ≡ Some Mov
 is_mov_file o fine = kind_read o ∙ some_mov (kind o) (none_supported o fine).readable.kind
+
 -- ---- an AVI file
 
 -- a form of one type is of no other

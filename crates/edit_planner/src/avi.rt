@@ -42,11 +42,7 @@ pub struct AviForm {
 }
 
 /// The first form of a file whose map this is. The depot is only read: the types of lists up to `hdrl`.
-pub fn read_form<D: Depot>(
-    alloc: Global,
-    depot: &mut D,
-    map: &AviMap,
-) -> Result<AviForm, LoadFault>
+pub fn read_form<D: Depot>(alloc: Global, depot: &mut D, map: &AviMap) -> Result<AviForm, LoadFault>
     requires mapped { (b : List ℕ) → Holds (D.disk depot.old) b → IsMapOf b map.now }
     requires sound { IsSound map.now }
     ensures tells { (b : List ℕ) → Holds (D.disk depot.old) b → IfOk result (λ f. TellsForm b f) }

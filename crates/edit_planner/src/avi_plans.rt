@@ -35,11 +35,7 @@ use std::alloc::Global;
 const MOST_BYTES: u64 = 16_777_216;
 
 // Appends a change where it is of a stream's name.
-fn put_name(
-    names: &mut Vec<StreamName>,
-    alloc: Global,
-    change: &RawChange,
-) -> Result<(), NoMemory>
+fn put_name(names: &mut Vec<StreamName>, alloc: Global, change: &RawChange) -> Result<(), NoMemory>
     ensures { OnOk result (told names.new.items ≡ told names.old.items ++ name_item change.now.name change.now.value) }
 {
     let FieldName::Stream(stream) = &change.name else {
@@ -158,13 +154,5 @@ pub fn plan_avi<D: Depot>(
         Err(_) => return Err(PlanFault::Memory),
         Ok(tables) => tables,
     };
-    plan_row(
-        alloc,
-        depot,
-        &form.form,
-        names,
-        &tables,
-        &places,
-        form.end,
-    )
+    plan_row(alloc, depot, &form.form, names, &tables, &places, form.end)
 }

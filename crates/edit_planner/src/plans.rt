@@ -15,8 +15,8 @@ ghost use Rattle.wave_plan.specs.Widened.{FitsReserved};
 ghost use Rattle.edit_planner.specs.Kinds.{model_in};
 ghost use Rattle.edit_planner.specs.Plan.{IsReady, Maps, SoundMap, fields_in, kind_in, reserved_in, streams_in, unbuilt_in, widening_in};
 
-use crate::movie::plan_mov;
 use crate::avi_plans::plan_avi;
+use crate::movie::plan_mov;
 use crate::wave::{PlaceFault, places_of};
 use avi_file::AviMap;
 use core_edit::{Edit, raw_changes};

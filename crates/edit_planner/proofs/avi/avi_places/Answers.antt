@@ -32,8 +32,7 @@ returns-clause-places g c = λ b holds bytes t.
     let e = info_edit (raw_items_of c.args.changes.now) in
     let before : c.in-Ok.loaded.cells.items ≡ told_row_by avi_held 12 (avi_cells cs) = c.in-Ok.ensures.cells b holds avi_role cs (c.deref.ensures.value ∙ t.chunks_are) (children_stand b) ∙ avi_loaded 12 cs in
     let lists : first_above (avi_sizes b e) ≡ None = c.in-Ok-edit_row.ensures.large cs (lists_small b t.form.supported) before in
-    let row = c.in-Ok-edit_row.ensures.told cs c.args.form.now.head t.head refl (are_riff b) before in
-    (
+    let row = c.in-Ok-edit_row.ensures.told cs c.args.form.now.head t.head refl (are_riff b) before in (
       places_told b c.args.lacks_pad e c.args.form.now.head c.edit_row.new.cells.items c.in-Ok-places_in.places.items bytes t.form.supported (are_riff b) t.head row (c.in-Ok-places_in.ensures ∙ ap (map placed) c.deref-2.ensures.value),
       lists,
     )

@@ -9,6 +9,7 @@ plan_wave-requires-clause-mapped g c = λ b holds. let h : Maps b c.args.file.no
 
 pub plan_mov-requires-clause-mapped : goal.plan_mov-requires-clause-mapped
 plan_mov-requires-clause-mapped g c = λ b holds. let h : Maps b c.args.file.now = c.requires.mapped b holds in search rules
+
 pub plan_avi-requires-clause-mapped : goal.plan_avi-requires-clause-mapped
 plan_avi-requires-clause-mapped g c = λ b holds. let h : Maps b c.args.file.now = c.requires.mapped b holds in search rules
 
