@@ -1,7 +1,8 @@
 // Worked runs, by what each shows.
 use crate::files::{
     CHECKED, DATED, EMPTY, EMPTY_TITLED, FRAMES, JOURNAL, LARGE, LARGE_TITLED, LOUD, MOVIE,
-    NUMBERED, ODD, ODD_TITLED, PLAIN, SHORT, TITLED, TITLES, VERSION_AT, described, with_bext,
+    NUMBERED, ODD, ODD_TITLED, PLAIN, RENAMED, SHORT, TITLED, TITLES, VERSION_AT, described,
+    with_bext,
 };
 use crate::rows::{Held, Row, goes};
 use crate::runs::{depot_of, holds, paper, run_on, run_told, words_of};
@@ -70,10 +71,15 @@ fn movies_and_avi_files_are_shown(rt: HostRuntime) -> Result<(), Fail> {
 }
 
 #[test]
-fn movies_are_not_edited_yet(rt: HostRuntime) -> Result<(), Fail> {
-    let line = "refused 5 NotSupported NotBuilt\n";
-    let row = Row::refused(&["set", "f.wav", "@nam=Hi"], MOVIE, 5, line);
-    assert!(rt; goes(rt.alloc(), &row, &Outcome::NotSupported(Why::NotBuilt))?);
+fn a_movie_is_renamed_in_place(rt: HostRuntime) -> Result<(), Fail> {
+    let summary = Summary {
+        payload: 16,
+        ..IN_PLACE
+    };
+    let words = ["set", "f.wav", "@nam=Hi"];
+    let printed = "done changed in-place essence 16\n";
+    let row = Row::leaving(&words, MOVIE, printed, RENAMED, 118);
+    assert!(rt; goes(rt.alloc(), &row, &Outcome::Done(summary))?);
     Ok(())
 }
 
