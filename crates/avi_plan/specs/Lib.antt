@@ -11,3 +11,8 @@ pub mod Refusals
 pub mod Drops
 pub mod Patched
 pub mod Comes
+pub mod Lists
+pub mod Strls
+pub mod NamesAt
+pub mod Streams
+pub mod Row

@@ -1,5 +1,5 @@
 // What stands round the chunks of the first form.
-ghost use Rattle.std.specs.Prelude.{◌≡◌, ◌≤◌, ◌<◌, ◌+◌, ◌∷◌, ◌++◌, ◌^◌, [], ℕ, List, IfOk, Bool, if◌then◌else◌, ◌==◌};
+ghost use Rattle.std.specs.Prelude.{◌≡◌, ◌≤◌, ◌<◌, ◌+◌, ◌∷◌, ◌++◌, ◌^◌, [], ℕ, List, IfOk, Bool, true, if◌then◌else◌, ◌==◌};
 ghost use Rattle.me_bytes.specs.Bytes.{IsBytes};
 ghost use Rattle.me_disk.specs.Holds.{Holds};
 ghost use Rattle.me_disk.specs.Steps.{HasCause, ReadsOnly};
@@ -57,6 +57,8 @@ pub fn pad_stays<D: Depot>(depot: &mut D, form: &FormAt, size: u64) -> Result<bo
     requires form { (b : List ℕ) → Holds (D.disk depot.old) b → IsFormOf b form.now }
     ensures stays { (b : List ℕ) → Holds (D.disk depot.old) b → IsBytes b
         → IfOk result (λ t. t ≡ keeps_pad b form.now size) }
+    ensures same { size ≡ form.now.size → IfOk result (λ t. t ≡ true) }
+    ensures last { form.now.len ≡ 8 + form.now.size → IfOk result (λ t. t ≡ true) }
     ensures reads { ReadsOnly (D.disk depot.old) (D.disk depot.new) }
     ensures cause { HasCause (D.disk depot.old) (D.disk depot.new) result }
 {

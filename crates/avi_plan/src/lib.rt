@@ -1,6 +1,7 @@
 //! What stands round the places of an AVI file changes with them: where the ranges between the spans of an edit go, the form's
 //! size and pad, and the tables that name places: the rows of `idx1` and of the indexes of OpenDML name the new ones, or the first
-//! that they can't name is told. It makes the segments of the new file, and doesn't know what an edit makes of a chunk.
+//! that they can't name is told. It makes the segments of the new file, and the spans of an edit of the names of streams; what an edit
+//! makes of any other chunk it doesn't know.
 #![tactic(auto)]
 
 ghost use Rattle.std.specs.Prelude.{◌≡◌, ℕ, List, length, map};
@@ -24,12 +25,20 @@ ghost use Rattle.avi_plan.specs.Tables.{IsTabled, Tabled, changes_of, tables_in}
 
 mod form;
 mod head;
+mod joined;
+mod list;
 mod misfit;
 mod moves;
+mod names;
 mod patches;
 mod plan;
 mod renumber;
+mod row;
 mod segments;
+#[cfg(test)]
+mod stream_tests;
+mod streams;
+mod strl;
 mod table;
 #[cfg(test)]
 mod tests;
@@ -39,9 +48,12 @@ pub use form::{FormAt, pad_stays, with_pad, with_size};
 pub use head::{entry_width, first_counted, read_head};
 pub use misfit::misfit_in;
 pub use moves::moves_between;
+pub use names::NamesAt;
 pub use plan::plan_spans;
 pub use renumber::renumber_all;
+pub use row::plan_row;
 pub use segments::segments_with;
+pub use streams::{StreamName, name_spans};
 pub use table::{Change, TableAt, TableKind};
 pub use units::{Passed, plan_edit};
 

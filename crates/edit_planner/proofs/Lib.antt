@@ -14,3 +14,8 @@ pub mod Formed
 pub mod OfKind
 pub mod MapTells
 pub mod Widens
+pub mod MoovParts
+pub mod MoovStands
+pub mod MoovPlaces
+pub mod MovieLaid
+pub mod MovieEdit

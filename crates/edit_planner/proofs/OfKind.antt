@@ -13,7 +13,11 @@ use Rattle.container_model.specs.Tests.{first, or_else}
 use Rattle.part_tree.specs.declared.why.Why.TheVariants.{NotBuilt}
 use Rattle.avi_model.specs.Kind.{avi_kind}
 use Rattle.avi_model.proofs.AviKind.{is_avi_kind}
+use Rattle.mov_file.proofs.FirstMoov.{kind_read}
+use Rattle.mov_model.specs.Begins as mov
 use Rattle.mov_model.specs.Kind.{mov_kind}
+use Rattle.mov_model.specs.Why as mov_why
+use Rattle.mov_model.proofs.Why.{none_supported}
 use Rattle.mov_model.proofs.WideKind.{is_mov_kind}
 use Rattle.wave_model.specs.Edited.{is_kind}
 use Rattle.wave_model.specs.Kind.{wave_kind}
@@ -163,3 +167,15 @@ is_read o fine = early (is_form_of (codes "RIFF") (codes "WAVE") b) (is_form_of 
 
     found : ((is_form_of (codes "RIFF") (codes "WAVE") b || is_form_of (codes "RF64") (codes "WAVE") b) || is_form_of (codes "BW64") (codes "WAVE") b) ≡ true
     found = any (bytes_eq (take 4 o) (codes "RIFF")) (bytes_eq (take 4 o) (codes "RF64")) (bytes_eq (take 4 o) (codes "BW64")) _ _ _ (form (codes "RIFF")) (form (codes "RF64")) (form (codes "BW64")) parts.0
+
+some_mov : (w : Option Kind) → mov.is_mov w ≡ true → w ≡ Some Mov
+some_mov None h = absurd cc
+some_mov (Some Wave) h = absurd cc
+some_mov (Some Rf64) h = absurd cc
+some_mov (Some Bw64) h = absurd cc
+some_mov (Some Avi) h = absurd cc
+some_mov (Some Mov) h = refl
+
+-- a supported movie is of the kind of movies
+pub is_mov_file : (o : List ℕ) → mov_why.why o ≡ None → kind_at o ≡ Some Mov
+is_mov_file o fine = kind_read o ∙ some_mov (kind o) (none_supported o fine).readable.kind

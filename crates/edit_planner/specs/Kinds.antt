@@ -44,7 +44,6 @@ model_in o = model_of (kind_at o)
 -- why files of a kind aren't edited yet, though they are read
 abbrev pub unbuilt : Option Kind → Option Why
 unbuilt (Some Avi) = Some NotBuilt
-unbuilt (Some Mov) = Some NotBuilt
 unbuilt _ = None
 
 -- Why a file isn't edited: the first reason for which it is refused, and else that edits of its kind aren't built yet.

@@ -6,3 +6,6 @@ pub mod Stand
 pub mod Places
 pub mod Plan
 pub mod Facts
+pub mod MoovMap
+pub mod MoovAtoms
+pub mod Movie

@@ -81,7 +81,7 @@ streams_in (Mov m) = 0
 abbrev pub unbuilt_in : FileMap → Option Why
 unbuilt_in (Wave m) = None
 unbuilt_in (Avi m) = Some NotBuilt
-unbuilt_in (Mov m) = Some NotBuilt
+unbuilt_in (Mov m) = None
 
 -- the kind that it tells
 abbrev pub kind_in : FileMap → Kind

@@ -111,8 +111,8 @@ impl FileMap {
         ensures { result ≡ unbuilt_in self.now }
     {
         match self {
-            FileMap::Wave(_) => None,
-            FileMap::Avi(_) | FileMap::Mov(_) => Some(Why::NotBuilt),
+            FileMap::Wave(_) | FileMap::Mov(_) => None,
+            FileMap::Avi(_) => Some(Why::NotBuilt),
         }
     }
 }

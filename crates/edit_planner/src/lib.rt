@@ -6,13 +6,17 @@ ghost use Rattle.std.specs.Prelude.{ℕ, List};
 ghost use Rattle.field_model.specs.Kind.{IsKind};
 ghost use Rattle.edit_planner.specs.Kinds.{model_in};
 
+mod atoms;
 mod bext;
+mod carried;
 mod cells;
 mod edit;
 mod facts;
 mod kinds;
 mod lists;
 mod load;
+mod moov;
+mod movie;
 mod places;
 mod plans;
 #[cfg(test)]

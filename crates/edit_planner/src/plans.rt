@@ -15,6 +15,7 @@ ghost use Rattle.wave_plan.specs.Widened.{FitsReserved};
 ghost use Rattle.edit_planner.specs.Kinds.{model_in};
 ghost use Rattle.edit_planner.specs.Plan.{IsReady, Maps, SoundMap, fields_in, kind_in, reserved_in, streams_in, unbuilt_in, widening_in};
 
+use crate::movie::plan_mov;
 use crate::wave::{PlaceFault, places_of};
 use avi_file::AviMap;
 use core_edit::{Edit, raw_changes};
@@ -110,7 +111,8 @@ pub fn plan<D: Depot>(
 {
     match file {
         FileMap::Wave(wave) => plan_wave(alloc, depot, wave, edit),
-        FileMap::Avi(_) | FileMap::Mov(_) => unreachable!(),
+        FileMap::Mov(map) => plan_mov(alloc, depot, map, edit),
+        FileMap::Avi(_) => unreachable!(),
     }
 }
 

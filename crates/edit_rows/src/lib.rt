@@ -2,7 +2,12 @@
 //! stopped after one of its calls, or within it, and then recovered.
 #![tactic(auto)]
 
+#[cfg(test)]
+mod batch_tests;
+mod batches;
 mod files;
+#[cfg(test)]
+mod made_tests;
 mod rows;
 mod runs;
 mod sparse;
@@ -15,9 +20,13 @@ mod tests;
 #[cfg(test)]
 mod writer_tests;
 
+pub use batches::{
+    BatchFile, BatchRan, BatchRow, batch_goes, batch_on, batch_ran, depots_of, tells_ends,
+    tells_stop,
+};
 pub use files::{
     CHECKED, DATED, EMPTY, EMPTY_TITLED, JOURNAL, LARGE, LARGE_TITLED, LOUD, NUMBERED, ODD,
-    ODD_TITLED, PLAIN, SHORT, TITLED, TITLES, VERSION_AT, described, with_bext,
+    ODD_TITLED, PLAIN, SHORT, TITLED, TITLES, VERSION_AT, WRITTEN_JOURNAL, described, with_bext,
 };
 pub use rows::{Held, Row, goes};
 pub use runs::{Ran, depot_of, holds, paper, run_by, run_on, run_told, words_of};

@@ -1,9 +1,15 @@
 // Runs whose report goes to a writer of std that takes little at a time.
+ghost use Rattle.std.specs.Prelude.{◌≡◌, IfOk, length};
+ghost use Rattle.me_disk.specs.Disk.{Only, read_as};
+ghost use Rattle.me_disk.specs.Memory.{memory_disk};
+
 use crate::files::{PLAIN, TITLED};
-use crate::runs::{depot_of, holds, words_of};
-use crate::stops::NO_EDIT;
-use me_disk::{MemorySource, StdSink};
+use crate::runs::{holds, words_of};
+use crate::stops::{NO_EDIT, plain};
+use me_disk::{MemoryDepot, MemorySource, StdSink};
 use metaedit_top::{Outcome, Summary, metaedit};
+use part_tree::NoMemory;
+use std::alloc::Global;
 use std::io::{self, Write};
 use std::process::Abort;
 use std::test::Fail;
@@ -18,22 +24,24 @@ enum End {
 // A writer that takes a few bytes a call, and of which each second call is interrupted, the first among them. Past its
 // room it ends.
 #[derive(Drop)]
-struct Grudging<'a> {
-    taken: &'a mut Vec<u8>,
+struct Grudging {
+    taken: Vec<u8>,
     most: usize,
     room: usize,
     end: End,
     interrupts: bool,
 }
 
-impl Grudging<'_> {
-    fn take(&mut self, front: &[u8]) -> io::Result<usize> {
+impl Grudging {
+    fn take(&mut self, front: &[u8]) -> io::Result<usize>
+        ensures { IfOk result (λ n. n ≡ length front.now) }
+    {
         self.taken.extend_from_slice(front)?;
         Ok(front.len())
     }
 }
 
-impl Write for Grudging<'_> {
+impl Write for Grudging {
     fn write(&mut self, bytes: &[u8]) -> io::Result<usize> {
         self.interrupts = !self.interrupts;
         if self.interrupts {
@@ -68,23 +76,33 @@ struct Told<'a> {
     after: &'a [u8],
 }
 
-fn check(rt: &(impl Abort + AllocGlobal), row: Told<'_>) -> Result<(), Fail> {
-    let alloc = rt.alloc();
-    let words = words_of(alloc, row.words)?;
-    let mut depot = depot_of(alloc, Some(PLAIN), None, &[])?;
-    let mut taken = Vec::new(alloc);
+// What a run answers whose report goes to this writer.
+fn run_to(
+    alloc: Global,
+    texts: &[&str],
+    depot: &mut MemoryDepot,
+    writer: &mut Grudging,
+) -> Result<Outcome, NoMemory>
+    requires { Only (read_as (memory_disk depot.old).slots) (memory_disk depot.old) }
+{
+    let words = words_of(alloc, texts)?;
     let mut table = MemorySource::new(Vec::new(alloc), Vec::new(alloc));
-    let mut out = StdSink::new(Grudging {
-        taken: &mut taken,
+    let mut out = StdSink::new(writer);
+    Ok(metaedit(alloc, &words, depot, &mut table, &mut out))
+}
+
+fn check(rt: &(impl Abort + AllocGlobal), row: &Told<'_>) -> Result<(), Fail> {
+    let mut depot = plain(rt.alloc())?;
+    let mut writer = Grudging {
+        taken: Vec::new(rt.alloc()),
         most: row.most,
         room: row.room,
         end: row.end,
         interrupts: false,
-    });
-    let outcome = metaedit(alloc, &words, &mut depot, &mut table, &mut out);
-    drop(out);
+    };
+    let outcome = run_to(rt.alloc(), row.words, &mut depot, &mut writer)?;
     assert!(rt; outcome == row.outcome);
-    assert!(rt; taken.as_slice() == row.taken);
+    assert!(rt; writer.taken.as_slice() == row.taken);
     assert!(rt; holds(&depot, Some(row.after), None));
     Ok(())
 }
@@ -125,7 +143,7 @@ fn a_report_is_whole_on_a_writer_that_takes_little(rt: HostRuntime) -> Result<()
                 taken,
                 after,
             };
-            check(&rt, row)?;
+            check(&rt, &row)?;
         }
     }
     Ok(())
@@ -145,7 +163,7 @@ fn a_writer_that_takes_no_more_is_told(rt: HostRuntime) -> Result<(), Fail> {
                 taken: &CHANGED[..room],
                 after: TITLED,
             };
-            check(&rt, row)?;
+            check(&rt, &row)?;
         }
     }
     Ok(())

@@ -47,10 +47,10 @@ one_read a b one reads i image = one i (reads.crash.images i image) ∙ same_ima
 pub alike_may : (q : Request) (a : Disk) (i : Image) → SettlesAlike (read_as a.slots) i → MayStand q a i
 alike_may q a i alike = λ tells f settles bytes. inl (alike f settles)
 
-pub settled : (a b : Disk) → b.tells ≡ a.tells → Recovers a b → IsSettled b
-settled a b same rec = record { alone = rec.alone; no_work = λ tells. rec.work (subst IsTrue same tells) }
+pub settled : (a b : Disk) → b.tells ≡ a.tells → Only (read_as a.slots) a → Recovers a b → IsSettled b
+settled a b same one rec = record { alone = rec.alone one; no_work = λ tells. rec.work (subst IsTrue same tells) }
 
-module _ (q : Request) (a b c : Disk) (rec : Recovers a b) (crash : Leaves (SettlesAlike (read_as a.slots)) a b)
+module _ (q : Request) (a b c : Disk) (rec : Recovers a b) (one : Only (read_as a.slots) a) (crash : Leaves (SettlesAlike (read_as a.slots)) a b)
     (wrote : IsTrue a.tells → b.written ≡ a.written + bytes_to_redo (read_as a.slots)) where
   tells_on : IsTrue a.tells → IsTrue b.tells
   tells_on tells = subst IsTrue (sym crash.tells) tells
@@ -99,7 +99,7 @@ module _ (q : Request) (a b c : Disk) (rec : Recovers a b) (crash : Leaves (Sett
 
   has_settled : ReadsOnly b c → HasSettled a c
   has_settled reads = record {
-    alone = subst (λ (o : List ℕ). StandsAlone o c) (ap bytes_of (sym reads.main)) (alone_on (bytes_of b.slots.main) b c reads rec.alone);
+    alone = subst (λ (o : List ℕ). StandsAlone o c) (ap bytes_of (sym reads.main)) (alone_on (bytes_of b.slots.main) b c reads (rec.alone one));
     settles = λ tells. subst (λ (m : Option (List ℕ)). Settles (Some (bytes_of m)) (read_as a.slots)) (sym reads.main) (rec.settles tells);
     no_work = λ tells. reads.work ∙ rec.work tells;
     written = λ tells. reads.written ∙ wrote tells;
@@ -131,7 +131,7 @@ module _ (q : Request) (a b c : Disk) (rec : Recovers a b) (crash : Leaves (Sett
   leaves stop.Memory why h = memory_leaves (nat_lt a.faults c.faults) (has_settled h)
 
   one_read_alone : IsLawful c → ReadsOnly b c → Only (read_as c.slots) c
-  one_read_alone lawful h = alone_only (bytes_of b.slots.main) c lawful (alone_on (bytes_of b.slots.main) b c h rec.alone)
+  one_read_alone lawful h = alone_only (bytes_of b.slots.main) c lawful (alone_on (bytes_of b.slots.main) b c h (rec.alone one))
 
   memory_one : (t : Bool) → Only (read_as c.slots) c → IsOneStop (cond t stop.Depot stop.Memory) c
   memory_one true one = tt

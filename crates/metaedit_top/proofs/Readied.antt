@@ -63,7 +63,7 @@ not_readied q a b f s is none damage cause refusal writes damaged since crash on
       leaves = run.leaves;
     }
 
-module _ (e : List EditItem) (file : Text) (a b c : Disk) (lawful : IsLawful c) (rec : Recovers a b) (crash : Leaves (SettlesAlike (read_as a.slots)) a b)
+module _ (e : List EditItem) (file : Text) (a b c : Disk) (lawful : IsLawful c) (rec : Recovers a b) (one : Only (read_as a.slots) a) (crash : Leaves (SettlesAlike (read_as a.slots)) a b)
     (since : (i : Image) → b.since a.clock i → SettlesAlike (read_as a.slots) i) (wrote : IsTrue a.tells → b.written ≡ a.written + bytes_to_redo (read_as a.slots)) (reads : ReadsOnly b c) where
   tells_on : IsTrue a.tells → IsTrue b.tells
   tells_on tells = subst IsTrue (sym crash.tells) tells
@@ -73,7 +73,7 @@ module _ (e : List EditItem) (file : Text) (a b c : Disk) (lawful : IsLawful c) 
 
   settled : HasSettled a c
   settled = record {
-    alone = subst (λ (o : List ℕ). StandsAlone o c) (ap bytes_of (sym reads.main)) (alone_on (bytes_of b.slots.main) b c reads rec.alone);
+    alone = subst (λ (o : List ℕ). StandsAlone o c) (ap bytes_of (sym reads.main)) (alone_on (bytes_of b.slots.main) b c reads (rec.alone one));
     settles = λ tells. subst (λ (m : Option (List ℕ)). Settles (Some (bytes_of m)) (read_as a.slots)) (sym reads.main) (rec.settles tells);
     no_work = λ tells. reads.work ∙ rec.work tells;
     written = λ tells. reads.written ∙ wrote tells;
@@ -112,5 +112,5 @@ module _ (e : List EditItem) (file : Text) (a b c : Disk) (lawful : IsLawful c) 
   pub unready : (s t : Stop) → t ≡ counted a.faults c.faults s → Prepares (file_request e file).rules (file_request e file).edit b c (Err s) → Readies (file_request e file) a c (Err t)
   unfolding stays since_so
   unready s t told h =
-      let run = ran_stopped (file_request e file) a b c rec crash wrote true s t told lawful since (not_prepared (file_request e file) refl [] true b c (λ o held. refl) s s refl h) in
+      let run = ran_stopped (file_request e file) a b c rec one crash wrote true s t told lawful since (not_prepared (file_request e file) refl [] true b c (λ o held. refl) s s refl h) in
       record { stays = stays; since = since_so; ready = tt; stops = run.stops; leaves = run.leaves }

@@ -25,7 +25,8 @@ pub record Because (words : List (List ℕ)) (left : Option (List ℕ)) (old new
   pub leaves : LeavesBy asked old new s
 
 -- What is asked for was done, beginning with a file, of which and of the request this holds.
-pub record DoneWith (words : List (List ℕ)) (left : Option (List ℕ)) (old new : Disk) (P : Request → List ℕ → Type 0) : Type 0 where
+pub record DoneWith (words : List (List ℕ)) (left : Option (List ℕ)) (old new : Disk) (P : Request → List ℕ → Type 0)
+    : Type 0 where
   pub asked : Request
   pub is : Asks words left asked
   pub done : OnBegun asked old (λ o. IsBytes o → HasRun asked o (bytes_before asked old o) old new × P asked o)
@@ -36,7 +37,8 @@ Prints q o stood before after = (text : List ℕ) × Reports q o stood text × A
 
 -- the first bytes of the report are printed behind what was
 abbrev pub PrintsSome : Request → List ℕ → Bool → Option (List ℕ) → Option (List ℕ) → Type 0
-PrintsSome q o stood before after = (text : List ℕ) × Reports q o stood text × ((k : ℕ) × Appends before after (take k text))
+PrintsSome q o stood before after =
+    (text : List ℕ) × Reports q o stood text × ((k : ℕ) × Appends before after (take k text))
 
 -- The run came to its end: this is its summary, and the report is printed.
 abbrev pub Ends : List (List ℕ) → Option (List ℕ) → Disk → Disk → Option (List ℕ) → Option (List ℕ) → Summary → Type 0
@@ -44,9 +46,11 @@ Ends words left old new before after s =
     DoneWith words left old new (λ q o. (s ≡ summary q o) × Prints q o (has_journal old) before after)
 
 -- The run came to its end, but for its output: the file was edited, or not, and some of the report is printed.
-abbrev pub EndsUnprinted : List (List ℕ) → Option (List ℕ) → Disk → Disk → Option (List ℕ) → Option (List ℕ) → Bool → Type 0
+abbrev pub EndsUnprinted : List (List ℕ) → Option (List ℕ) → Disk → Disk → Option (List ℕ) → Option (List ℕ) → Bool
+    → Type 0
 EndsUnprinted words left old new before after edited =
-    DoneWith words left old new (λ q o. (edited ≡ (summary q o).changed) × PrintsSome q o (has_journal old) before after)
+    DoneWith words left old new (λ q o. (edited ≡ (summary q o).changed)
+    × PrintsSome q o (has_journal old) before after)
 
 -- what the words alone fix of a summary
 abbrev pub FixesBy : List (List ℕ) → Summary → Type 0
@@ -111,14 +115,17 @@ is_before_device _ = false
 
 -- the answer to a table that has this fault: it is told, unless the table couldn't be read or there was no memory
 abbrev pub TellsFault : TableFault → Outcome → Type 0
-TellsFault fault result = (result ≡ outcome.TableFault fault) ⊎ ((result ≡ outcome.TableReadFault) ⊎ (result ≡ outcome.Memory))
+TellsFault fault result =
+    (result ≡ outcome.TableFault fault) ⊎ ((result ≡ outcome.TableReadFault) ⊎ (result ≡ outcome.Memory))
 
 -- What a run makes of the table that its source had left, by what it has left then.
 pub record TakesTable (words : List (List ℕ)) (left after : Option (List ℕ)) (result : Outcome) : Type 0 where
   pub faulty : (fault : TableFault) → result ≡ outcome.TableFault fault → HasTableFault words left fault
-  pub told : (all : List ℕ) (fault : TableFault) → left ≡ Some all → HasTableFault words left fault → TellsFault fault result
+  pub told : (all : List ℕ) (fault : TableFault) → left ≡ Some all → HasTableFault words left fault
+      → TellsFault fault result
   -- a run that comes to the device has read the table to its end
-  pub whole : (all : List ℕ) → left ≡ Some all → reads_table words ≡ true → is_past_table result ≡ true → after ≡ Some []
+  pub whole : (all : List ℕ) → left ≡ Some all → reads_table words ≡ true → is_past_table result ≡ true
+      → after ≡ Some []
 
 -- after a device fault the depot has to be opened anew; else what it reads as is again its one image
 abbrev pub IsOneAgain : Outcome → Disk → Type 0

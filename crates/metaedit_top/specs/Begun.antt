@@ -60,7 +60,8 @@ StandsBy q f i = StandsIn (makes_file q.command) q f i
 
 -- What a crash may leave of a run: what stands for the same as the state at entry, or for what the request makes of it.
 abbrev pub MayStandBy : Request → Disk → Image → Type 0
-MayStandBy q d i = IsTrue d.tells → (f : Option (List ℕ)) → Settles f (read_as d.slots) → AreBytes f → Settles f i ⊎ StandsBy q f i
+MayStandBy q d i =
+    IsTrue d.tells → (f : Option (List ℕ)) → Settles f (read_as d.slots) → AreBytes f → Settles f i ⊎ StandsBy q f i
 
 -- ---- why a file isn't made, and what is left then
 
@@ -81,7 +82,8 @@ MakeStops q old new stop.Depot = Rose old.faults new.faults
 MakeStops q old new stop.NoFile = ⊥
 MakeStops q old new stop.FileThere = IsTrue old.tells → IsSome old.slots.main
 MakeStops q old new (stop.Damaged at) = IsTrue old.tells → IsLeftover old.slots at
-MakeStops q old new (stop.NotSupported w) = IsTrue old.tells → IsClear old.slots × (why_by q.command (made_of q) ≡ Some w)
+MakeStops q old new (stop.NotSupported w) =
+    IsTrue old.tells → IsClear old.slots × (why_by q.command (made_of q) ≡ Some w)
 MakeStops q old new (stop.RuleBroken b) = IsTrue old.tells → IsClear old.slots × IsRefused q.rules q.edit (made_of q) b
 MakeStops q old new (stop.TooLarge size limit) =
     IsTrue old.tells → IsClear old.slots × IsTooLarge q.rules q.edit (made_of q) (record { size = size; limit = limit })
@@ -100,7 +102,8 @@ pub record IsUnmade (o : List ℕ) (old new : Disk) : Type 0 where
 
 -- What a stop leaves. An edit of the made file that is refused leaves the made file.
 abbrev pub MakeLeaves : Request → Disk → Disk → Stop → Type 0
-MakeLeaves q old new stop.Depot = IsTrue old.tells → new.written ≤ old.written + (length (made_of q) + run_bytes q (made_of q))
+MakeLeaves q old new stop.Depot =
+    IsTrue old.tells → new.written ≤ old.written + (length (made_of q) + run_bytes q (made_of q))
 MakeLeaves q old new stop.NoFile = ReadsOnly old new
 MakeLeaves q old new stop.FileThere = ReadsOnly old new
 MakeLeaves q old new (stop.Damaged at) = ReadsOnly old new

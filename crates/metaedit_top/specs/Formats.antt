@@ -6,7 +6,8 @@ use Rattle.metaedit_top.specs.declared.format.Formatted.{Formatted as ReadForm}
 
 -- the form that a word names
 abbrev pub format_of : List ℕ → Option TableFormat
-format_of word = if bytes_eq word (codes "csv") then Some Csv else (if bytes_eq word (codes "xml") then Some Xml else None)
+format_of word =
+    if bytes_eq word (codes "csv") then Some Csv else (if bytes_eq word (codes "xml") then Some Xml else None)
 
 -- a form, and the words behind it
 pub record Formatted : Type 0 where
@@ -40,7 +41,9 @@ begins_with_form (word ∷ rest) = is_form word || is_joined_form word
 abbrev pub with_format : List (List ℕ) → Option Formatted
 with_format [] = None
 with_format (word ∷ rest) =
-    if is_form word then next_form rest else (if is_joined_form word then named_form (format_of (drop 5 word)) rest else None)
+    if is_form word
+    then next_form rest
+    else (if is_joined_form word then named_form (format_of (drop 5 word)) rest else None)
 
 -- what was read
 abbrev pub format_in : ReadForm → Formatted

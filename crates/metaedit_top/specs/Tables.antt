@@ -59,7 +59,15 @@ takes_table _ = false
 
 -- a request with another edit
 abbrev pub with_edit : List EditItem → Request → Request
-with_edit e q = record { command = q.command; file = q.file; rules = q.rules; format = q.format; edit = e; kind = q.kind; n = q.n }
+with_edit e q = record {
+  command = q.command;
+  file = q.file;
+  rules = q.rules;
+  format = q.format;
+  edit = e;
+  kind = q.kind;
+  n = q.n;
+}
 
 -- what the table that a request is applied with gives, by the bytes that the source had left, where it tells them
 abbrev pub GivesEdit : Request → Option (List ℕ) → Result (List EditItem) TableFault → Type 0

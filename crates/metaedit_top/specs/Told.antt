@@ -107,7 +107,9 @@ pub record Exports (q : Request) (o : List ℕ) (text : List ℕ) : Type 0 where
 
 -- the line of a file that was made: its kind, its number and its length
 abbrev pub made_line : Kind → ℕ → ℕ → List ℕ
-made_line kind n len = codes "made " ++ ((facts kind).word ++ (codes " " ++ (decimal n ++ (codes " bytes " ++ (decimal len ++ codes "\n")))))
+made_line kind n len =
+    codes "made " ++ ((facts kind).word ++ (codes " " ++ (decimal n
+    ++ (codes " bytes " ++ (decimal len ++ codes "\n")))))
 
 -- what is told before an edit is: of a file that was made, that it was
 abbrev pub front_by : Command → Request → List ℕ → List ℕ

@@ -149,7 +149,9 @@ format_before command (Some f) = elim (rules_alone command f.rest) [
 abbrev pub options : Command → List Text → Option Options
 options command words =
     if takes_format command
-    then (if begins_with_form words then format_before command (with_format words) else format_behind (rules_alone command words))
+    then (if begins_with_form words
+    then format_before command (with_format words)
+    else format_behind (rules_alone command words))
     else rules_alone command words
 
 -- `set` has one item or more, `make` a kind and a number, and every other command has none; none begins with `-`
@@ -243,17 +245,36 @@ edit_of words = edit_in (items_from 1 words)
 abbrev pub asked : Command → Parts → Result (List EditItem) UsageFault → Result Request UsageFault
 asked command p (Err fault) = Err fault
 asked command p (Ok edit) =
-    Ok (record { command = command; file = p.file; rules = p.rules; format = p.format; edit = edit; kind = Wave; n = 0 })
+    Ok (record {
+      command = command;
+      file = p.file;
+      rules = p.rules;
+      format = p.format;
+      edit = edit;
+      kind = Wave;
+      n = 0;
+    })
 
 -- the request to make a file of a kind and a number
 abbrev pub asked_to_make : Command → Parts → Option Making → Result Request UsageFault
 asked_to_make command p None = Err fault.Value
 asked_to_make command p (Some m) =
-    Ok (record { command = command; file = p.file; rules = p.rules; format = p.format; edit = []; kind = m.kind; n = m.n })
+    Ok (record {
+      command = command;
+      file = p.file;
+      rules = p.rules;
+      format = p.format;
+      edit = [];
+      kind = m.kind;
+      n = m.n;
+    })
 
 -- the request of a command by its parts
 abbrev pub request_of : Command → Parts → Result Request UsageFault
-request_of command p = if makes_file command then asked_to_make command p (making_of p.items) else asked command p (edit_of p.items)
+request_of command p =
+    if makes_file command
+    then asked_to_make command p (making_of p.items)
+    else asked command p (edit_of p.items)
 
 -- the request, where the words have the form of a command
 abbrev pub request_by : Command → Option Parts → Result Request UsageFault

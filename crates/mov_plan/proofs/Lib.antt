@@ -41,3 +41,6 @@ pub mod Carrying
 pub mod Tabled
 pub mod Rowing
 pub mod Nesting
+pub mod AtomBodies
+pub mod Carried
+pub mod NewAtoms

@@ -15,3 +15,4 @@ pub mod Tracks
 pub mod Atoms
 pub mod Within
 pub mod Nested
+pub mod Carriers

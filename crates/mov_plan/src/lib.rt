@@ -17,15 +17,20 @@ ghost use Rattle.mov_plan.specs.Rows.{none, row};
 ghost use Rattle.mov_plan.specs.Shapes.{shapes};
 
 mod atoms;
+mod bodies;
 mod carry;
 mod frame;
 mod holders;
+mod key_carry;
 mod key_len;
 mod keyed;
 mod keys;
+mod moov_carriers;
 mod moves;
 mod named;
 mod nested;
+#[cfg(test)]
+mod nested_tests;
 mod place;
 mod plan;
 mod row;
@@ -37,14 +42,17 @@ mod tests;
 mod tracks;
 mod unit;
 mod user;
+mod user_carry;
 mod widen;
 mod within;
 
 pub use atoms::{AtomsFault, atoms_of};
+pub use bodies::CarryFault;
 pub use carry::{Carry, NewAtom, carry_atoms};
 use field_model as _;
 pub use frame::MoovAt;
 pub use keys::{KeyChange, KeysFault, edit_keys, new_keys};
+pub use moov_carriers::{Carries, carriers};
 use mov_model as _;
 pub use nested::{Nested, NestedFault, nested_of};
 pub use place::{Behind, Place};

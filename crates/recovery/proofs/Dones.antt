@@ -19,11 +19,15 @@ use Rattle.recovery.specs.Redo.{Redo, IsRedo, made, SettlesAlike}
 use Rattle.recovery.specs.Recovered.{IsBroken, IsRedone, Recovers}
 use Rattle.part_tree.specs.Patches.{laid}
 use Rattle.recovery.proofs.Alike.{entry_settles, alike}
-use Rattle.recovery.proofs.Recovers.{same_entry}
+use Rattle.recovery.proofs.Recovers.{same_entry, only_read}
 
 pub there : (m : Option (List ℕ)) → IsSome m → m ≡ Some (bytes_of m)
 there None h = absurd cc
 there (Some l) h = refl
+
+is_there : (m : Option (List ℕ)) (l : List ℕ) → m ≡ Some l → IsSome m
+is_there None l is = absurd cc
+is_there (Some k) l is = refl
 
 held_there : (m : Option (List ℕ)) (l : List ℕ) → m ≡ Some l → m ≡ Some (bytes_of m)
 held_there m l is = is ∙ ap (λ (x : Option (List ℕ)). Some (bytes_of x)) (sym is)
@@ -43,19 +47,26 @@ alone_dropped file b c x law_b law_c main journal only does = record {
 -- after the redo
 pub redo_done : (w : Redo) (a b c : Disk) (x : Unit {0}) → IsLawful b → IsLawful c → b.tells ≡ a.tells → w.entry ≡ read_as a.slots → (IsTrue a.tells → IsRedo w) → Only (plain (Some (made w))) b
     → (IsTrue b.tells → b.slots.main ≡ Some (made w)) → (IsTrue b.tells → b.slots.journal ≡ None) → Does DropWork b c (Ok x) → Recovers a c
-redo_done w a b c x law_b law_c same entry redo only main journal does = record {
-  alone = alone_dropped (made w) b c x law_b law_c main journal only does;
-  settles = λ tells.
-      let t = same ∙ tells in
-      let is : Some (bytes_of c.slots.main) ≡ Some (made w) = sym (held_there c.slots.main (made w) (does.main_stays ∙ main t)) ∙ does.main_stays ∙ main t in
-      subst (λ (i : Image). Settles (Some (bytes_of c.slots.main)) i) entry (subst (λ (f : Option (List ℕ)). Settles f w.entry) (sym is) (entry_settles w (redo tells)));
-  work = λ tells. does.work (same ∙ tells);
-}
+redo_done w a b c x law_b law_c same entry redo only main journal does =
+    let alone = alone_dropped (made w) b c x law_b law_c main journal only does in record {
+      file = λ tells. is_there c.slots.main (bytes_of c.slots.main) (alone.main tells);
+      journal = alone.journal;
+      state = alone.state;
+      alone = λ one. alone;
+      settles = λ tells.
+          let t = same ∙ tells in
+          let is : Some (bytes_of c.slots.main) ≡ Some (made w) = sym (held_there c.slots.main (made w) (does.main_stays ∙ main t)) ∙ does.main_stays ∙ main t in
+          subst (λ (i : Image). Settles (Some (bytes_of c.slots.main)) i) entry (subst (λ (f : Option (List ℕ)). Settles f w.entry) (sym is) (entry_settles w (redo tells)));
+      work = λ tells. does.work (same ∙ tells);
+    }
 
 -- where no journal was
-pub plain_done : (a c : Disk) (x : Unit {0}) → IsLawful a → IsLawful c → (IsTrue a.tells → IsSome a.slots.main × (a.slots.journal ≡ None)) → Only (read_as a.slots) a → Does DropWork a c (Ok x) → Recovers a c
-plain_done a c x law_a law_c none only does = record {
-  alone = alone_dropped (bytes_of a.slots.main) a c x law_a law_c (λ tells. there a.slots.main (none tells).0) (λ tells. (none tells).1)
+pub plain_done : (a c : Disk) (x : Unit {0}) → IsLawful a → IsLawful c → (IsTrue a.tells → IsSome a.slots.main × (a.slots.journal ≡ None)) → Does DropWork a c (Ok x) → Recovers a c
+plain_done a c x law_a law_c none does = record {
+  file = λ tells. subst (λ (m : Option (List ℕ)). IsSome m) (sym does.main_stays) (none (sym does.tells ∙ tells)).0;
+  journal = λ tells. does.journal_stays ∙ (none (sym does.tells ∙ tells)).1;
+  state = does.state;
+  alone = λ only. alone_dropped (bytes_of a.slots.main) a c x law_a law_c (λ tells. there a.slots.main (none tells).0) (λ tells. (none tells).1)
       (λ i h. let tells = law_a.told i h in only i h ∙ same_image (read_as a.slots) (plain (Some (bytes_of a.slots.main))) (there a.slots.main (none tells).0) (none tells).1) does;
   settles = λ tells.
       let n = none tells in
@@ -80,7 +91,10 @@ redo_leaves w a b c r law same entry redo only before does =
 -- what was read before leaves the entry as it was
 pub reads_done : (a b c : Disk) → ReadsOnly a b → Recovers b c → Recovers a c
 reads_done a b c reads done = record {
-  alone = done.alone;
+  file = done.file;
+  journal = done.journal;
+  state = done.state;
+  alone = λ only. done.alone (only_read a b reads only);
   settles = λ tells. subst (λ (i : Image). Settles (Some (bytes_of c.slots.main)) i) (same_entry a b reads) (done.settles (reads.tells ∙ tells));
   work = λ tells. done.work (reads.tells ∙ tells);
 }

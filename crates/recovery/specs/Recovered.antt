@@ -1,7 +1,8 @@
 -- What a recovery answers, writes and leaves.
 use Rattle.std.specs.Prelude.{◌≡◌, ◌≢◌, ℕ, ◌+◌, ◌≤◌, IsTrue, IsSome, is_some, if◌then◌else◌, List, Option, Some, None, Result, Err, ⊤}
 use Rattle.part_tree.specs.declared.plan.Patch.{Patch}
-use Rattle.me_disk.specs.Disk.{Slots, Image, Disk, read_as, bytes_of}
+use Rattle.me_disk.specs.declared.depot.WorkState.TheVariants.{Closed}
+use Rattle.me_disk.specs.Disk.{Slots, Image, Disk, Only, read_as, bytes_of}
 use Rattle.edit_journal.specs.Journal.{Journal}
 use Rattle.edit_journal.specs.Damage.{damage_over}
 use Rattle.edit_journal.specs.Patches.{patches_in}
@@ -60,8 +61,12 @@ pub record RecoverWrites (n : ℕ) (old new : Disk) (result : Result Recovered R
   pub most : new.written ≤ old.written + n
   pub exact : result ≢ Err Depot → new.written ≡ old.written + n
 
--- The file stands alone, it is the one that the state at entry stands for, and no `Work` is left.
+-- The file is the one that the state at entry stands for, and no journal and no `Work` is left beside it. Where what the
+-- depot read as was its only image, the file stands alone.
 pub record Recovers (old new : Disk) : Type 0 where
-  pub alone : StandsAlone (bytes_of new.slots.main) new
+  pub file : IsTrue new.tells → IsSome new.slots.main
+  pub journal : IsTrue new.tells → new.slots.journal ≡ None
+  pub state : new.work_state ≡ Closed
+  pub alone : Only (read_as old.slots) old → StandsAlone (bytes_of new.slots.main) new
   pub settles : IsTrue old.tells → Settles (Some (bytes_of new.slots.main)) (read_as old.slots)
   pub work : IsTrue old.tells → new.slots.work ≡ None

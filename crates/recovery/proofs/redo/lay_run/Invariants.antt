@@ -1,7 +1,7 @@
 use Rattle.std.proofs.Common.{◌≡◌, ◌+◌, ◌-◌, ◌≤◌, take, replicate}
 use Rattle.me_bytes.specs.Bytes.{overlay}
 use Rattle.me_disk.specs.Disk.{Leaves, bytes_of}
-use Rattle.recovery.specs.Redo.{IsTornBy, IsLaying}
+use Rattle.recovery.specs.Redo.{AreTorn, IsTornBy, IsLaying}
 use Rattle.recovery.proofs.redo.lay_run.Given as goal
 
 abbrev pub ghost-write_block : goal.ghost-write_block
@@ -11,7 +11,9 @@ abbrev pub invariant-loop-done : goal.invariant-loop-done
 invariant-loop-done g l = let old = g.D.Depot.disk l.fn.depot in let now = g.D.Depot.disk l.depot in record {
   part : l.done ≤ l.len;
   laying : IsLaying g.redo (overlay l.p.at (take l.done (replicate l.len l.byte)) (bytes_of old.slots.main)) now;
-  crash : Leaves (IsTornBy g.redo) old now;
+  crash : AreTorn g.redo old → Leaves (IsTornBy g.redo) old now;
+  tells : now.tells ≡ old.tells;
+  later : old.faults ≤ now.faults;
   written : now.written ≡ old.written + l.done;
 }
 

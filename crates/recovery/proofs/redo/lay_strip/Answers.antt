@@ -1,6 +1,8 @@
 use Rattle.std.proofs.Common.{◌∙◌, ◌+◌, ◌≤◌, Bool, sym, subst, length, List, ℕ, Option}
 use Rattle.std.specs.Prelude.{if◌then◌else◌}
 use Rattle.me_disk.specs.Disk.{bytes_of}
+use Rattle.me_disk.proofs.Runs.{Leaves-reads, Leaves-trans}
+use Rattle.recovery.specs.Redo.{IsTornBy}
 use Rattle.recovery.proofs.Lays.{laying_now}
 use Rattle.recovery.proofs.Lefts.{laying_read}
 use Rattle.recovery.proofs.redo.lay_strip.Goals as goal
@@ -30,3 +32,11 @@ lay_plain-requires g c κs within =
         c.requires.1.1,
       ),
     )
+
+pub returns-then-p-clause-crash : goal.returns-then-p-clause-crash
+returns-then-p-clause-crash g c = λ torn.
+    let d0 = g.D.Depot.disk c.args.depot.now in
+    let d1 = g.D.Depot.disk c.read_byte.new.depot in
+    let d2 = g.D.Depot.disk c.lay_run.new.depot in
+    let reads = c.read_byte.ensures.reads in
+    Leaves-trans (IsTornBy g.redo) d0 d1 d2 (Leaves-reads (IsTornBy g.redo) d0 d1 reads) (c.lay_run.ensures.crash (λ i h. torn i (reads.crash.images i h)))
