@@ -1,4 +1,4 @@
-// Edits the metadata of WAVE, RF64 and BW64 files: `metaedit set FILE NAME=VALUE..`.
+// Edits the metadata of sound and picture files. Its stored run makes a movie and edits it.
 #![tactic(auto)]
 
 use metaedit_top::run_program;
