@@ -185,6 +185,7 @@ def main():
     parent = sys.argv[3] if len(sys.argv) > 3 else TOP
     program, chance = built(), random.Random(seed)
     good = [*waves(), *avis(), *movies()]
+    os.makedirs(parent, exist_ok=True)
     folder = tempfile.mkdtemp(prefix=".bench.", dir=parent)
     wrong, runs, ends = 0, 0, collections.Counter()
 
