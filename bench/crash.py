@@ -42,6 +42,14 @@ def wave(*chunks):
     return chunk(b"RIFF", b"WAVE" + b"".join(chunks))
 
 
+def wide(form, *chunks):
+    """A file whose sizes stand in `ds64`; the last chunk is its sound."""
+    sound = chunks[-1][8:]
+    body = b"".join(chunks[:-1]) + b"data" + b"\xff" * 4 + sound
+    sizes = [(4 + 36 + len(body)).to_bytes(8, "little"), len(sound).to_bytes(8, "little"), (len(sound) // 2).to_bytes(8, "little"), bytes(4)]
+    return form + b"\xff" * 4 + b"WAVE" + chunk(b"ds64", b"".join(sizes)) + body
+
+
 FORMAT = chunk(b"fmt ", bytes.fromhex("0100010044ac00008858010002001000"))
 
 
@@ -149,7 +157,7 @@ class Bench:
 
 
 class Batch:
-    """Batches of 64 files that get one title: WAVE files in place and rewritten with AVI files among them, or movies. No field is one
+    """Batches of 64 files that get one title: WAVE files in place and rewritten, with RF64, BW64 and AVI files among them, or movies. No field is one
     of all kinds, so movies have a batch of their own."""
 
     def __init__(self, program, folder, field, made):
@@ -162,6 +170,8 @@ class Batch:
             sound = chunk(b"data", random.randbytes(40_000))
             self.add("in-place", wave(FORMAT, listed, chunk(b"JUNK", bytes(1016)), sound))
             self.add("rewrite", wave(FORMAT, listed, sound))
+            for form in (b"RF64", b"BW64"):
+                self.add("rewrite", wide(form, FORMAT, listed, sound))
         for number in made[1:]:
             self.add_made(made[0], number)
 
