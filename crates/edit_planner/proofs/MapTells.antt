@@ -34,11 +34,11 @@ use Rattle.wave_file.specs.Map.{IsMapOf, IsSound, all_sounds, sound_at}
 use Rattle.wave_file.specs.declared.map.WaveMap.{WaveMap}
 use Rattle.edit_planner.specs.declared.plans.FileMap.{FileMap}
 use Rattle.edit_planner.specs.declared.plans.FileMap.TheVariants as map
-use Rattle.edit_planner.specs.Facts.{IsRead, IsUnbuilt, RefusesEdit, TellsOf, hashed_in}
+use Rattle.edit_planner.specs.Facts.{IsRead, TellsOf, hashed_in}
 use Rattle.edit_planner.specs.Kinds.{kind_at, model_in}
 use Rattle.edit_planner.specs.Plan.{Maps, told_in, told_len, total_len}
 use Rattle.track_samples.specs.Places.{Lies, TablesLie}
-use Rattle.edit_planner.proofs.OfKind.{edited_by, edits_sound, of_avi, of_mov, of_wave, is_read, refused_too}
+use Rattle.edit_planner.proofs.OfKind.{of_avi, of_mov, of_wave, is_read}
 
 first_one : {X : Type 0} {x y : X} {xs : List X} → x ∷ [] ≡ y ∷ xs → x ≡ y
 first_one {X} {x} e = ap first e
@@ -92,7 +92,6 @@ wave_read d m file good ordered = record {
   ordered = ordered;
   inside = λ o h. let len = (file o h).len in omega (arith, len, good.sound_inside, good.form_inside);
   small = omega (arith, good.sound_inside, good.form_inside, good.small);
-  editable = λ o h. edits_sound o (tells o m (file o h)).supported (is_read o (file o h).supported);
   bodies_ascend = tt;
   bodies_inside = λ o h. tt;
   tables = tt;
@@ -149,7 +148,6 @@ mov_read d m kinds file good ordered =
       ordered = ordered;
       inside = tt;
       small = tt;
-      editable = λ o h. edited_by o (Some Mov) (told o h).supported (kinds o h);
       bodies_ascend = good.mdats;
       bodies_inside = λ o h. subst (λ (n : ℕ). AllByRecursion (λ (s : Span). s.at + s.len ≤ n) m.mdats.items) (file o h).len good.mdats_inside;
       tables = tables_lie d m good.small (λ o h. (file o h).len) m.tracks.items good.tracks;
@@ -192,7 +190,6 @@ avi_read d m kinds file good ordered few =
       ordered = ordered;
       inside = tt;
       small = tt;
-      editable = λ o h. edited_by o (Some Avi) (told o h).supported (kinds o h);
       bodies_ascend = tt;
       bodies_inside = λ o h. tt;
       tables = tt;
@@ -231,7 +228,6 @@ read_before a b m reads of = record {
   ordered = of.ordered;
   inside = range_back a b (hashed_in m) reads of.inside;
   small = of.small;
-  editable = λ o h. of.editable o (holds_on a b o reads h);
   bodies_ascend = of.bodies_ascend;
   bodies_inside = λ o h. of.bodies_inside o (holds_on a b o reads h);
   tables = tables_back a b (told_in m).tracks reads of.tables;
@@ -241,29 +237,3 @@ pub read_back : (a b : Disk) (r : Result FileMap ReadFault) → ReadsOnly a b �
 unfolding read_before
 read_back a b (Ok m) reads h = read_before a b m reads h
 read_back a b (Err f) reads h = h
-
--- ---- a file that is to be edited
-
-pub refuses_edit : (o : List ℕ) (fault : ReadFault) → Refuses (model_in o) o fault → RefusesEdit o fault
-refuses_edit o (read.Why w) h = refused_too o w h
-refuses_edit o read.Depot h = tt
-refuses_edit o read.Memory h = tt
-
-pub unbuilt_refuses : (d : Disk) (o : List ℕ) (m : FileMap) (fault : ReadFault) → IsRead d m → Holds d o → IsUnbuilt m fault → RefusesEdit o fault
-unbuilt_refuses d o m (read.Why w) of held h = of.editable o held ∙ h
-unbuilt_refuses d o m read.Depot of held h = absurd h
-unbuilt_refuses d o m read.Memory of held h = absurd h
-
-pub to_edit_refuses : (d : Disk) (o : List ℕ) (m : FileMap) (r : Result FileMap ReadFault) → IsRead d m → Holds d o → IfErr r (IsUnbuilt m) → IfErr r (RefusesEdit o)
-to_edit_refuses d o m (Ok n) of held h = h
-to_edit_refuses d o m (Err f) of held h = unbuilt_refuses d o m f of held h
-
-pub to_edit_read : (d : Disk) (m : FileMap) (r : Result FileMap ReadFault) → IsRead d m → IfOk r (λ n. n ≡ m) → IfOk r (IsRead d)
-to_edit_read d m (Ok n) of is = subst (IsRead d) (sym is) of
-to_edit_read d m (Err f) of is = is
-
-pub no_depot : (m : FileMap) (r : Result FileMap ReadFault) → IfErr r (IsUnbuilt m) → r ≡ Err read.Depot → ⊥
-no_depot m (Ok n) h e = absurd cc
-no_depot m (Err (read.Why w)) h e = absurd cc
-no_depot m (Err read.Depot) h e = h
-no_depot m (Err read.Memory) h e = h

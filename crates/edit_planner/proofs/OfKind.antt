@@ -10,7 +10,6 @@ use Rattle.part_tree.specs.declared.names.Kind.TheVariants.{Wave, Rf64, Bw64, Av
 use Rattle.part_tree.specs.declared.why.Why.{Why}
 use Rattle.field_model.specs.Kind.{KindModel, IsKind}
 use Rattle.container_model.specs.Tests.{first, or_else}
-use Rattle.part_tree.specs.declared.why.Why.TheVariants.{NotBuilt}
 use Rattle.avi_model.specs.Kind.{avi_kind}
 use Rattle.avi_model.specs.Why.{why_named}
 use Rattle.avi_model.proofs.AviKind.{is_avi_kind}
@@ -29,7 +28,7 @@ use Rattle.wave_model.proofs.Kind.{wave_law}
 use Rattle.edit_planner.specs.declared.plans.FileMap.{FileMap}
 use Rattle.edit_planner.specs.declared.plans.FileMap.TheVariants as map
 use Rattle.edit_planner.specs.Plan.{Maps}
-use Rattle.edit_planner.specs.Kinds.{edit_why, kind_at, is_avi, is_mov, is_sound, model_of, model_in, unbuilt}
+use Rattle.edit_planner.specs.Kinds.{kind_at, is_avi, is_mov, is_sound, model_of, model_in}
 
 pub of_kind : (P : KindModel → Type 0) (o : List ℕ) (w : Option Kind) → kind_at o ≡ w → P (model_of w) → P (model_in o)
 unfolding model_in
@@ -95,38 +94,6 @@ mov_by (Some Rf64) h = absurd cc
 mov_by (Some Bw64) h = absurd cc
 mov_by (Some Avi) h = absurd cc
 mov_by (Some Mov) h = refl
-
--- ---- why a file isn't edited
-
--- a file that is refused isn't edited
-pub refused_too : (o : List ℕ) (w : Why) → (model_in o).why o ≡ Some w → edit_why o ≡ Some w
-unfolding edit_why
-refused_too o w is = ap (λ (x : Option Why). or_else x (unbuilt (kind_at o))) is
-
--- a supported file is edited where edits of its kind are built
-pub edited_by : (o : List ℕ) (w : Option Kind) → (model_in o).why o ≡ None → kind_at o ≡ w → edit_why o ≡ unbuilt w
-unfolding edit_why
-edited_by o w fine is = ap (λ (x : Option Why). or_else x (unbuilt (kind_at o))) fine ∙ ap unbuilt is
-
--- a file that can be edited is supported
-pub fine_too : (o : List ℕ) → edit_why o ≡ None → (model_in o).why o ≡ None
-unfolding edit_why
-fine_too o fine = go ((model_in o).why o) fine
-  where
-    go : (x : Option Why) → or_else x (unbuilt (kind_at o)) ≡ None → x ≡ None
-    go None h = refl
-    go (Some w) h = absurd cc
-
-unbuilt_sound : (w : Option Kind) → is_sound w ≡ true → unbuilt w ≡ None
-unbuilt_sound None h = refl
-unbuilt_sound (Some Wave) h = refl
-unbuilt_sound (Some Rf64) h = refl
-unbuilt_sound (Some Bw64) h = refl
-unbuilt_sound (Some Avi) h = absurd cc
-unbuilt_sound (Some Mov) h = absurd cc
-
-pub edits_sound : (o : List ℕ) → (model_in o).why o ≡ None → is_sound (kind_at o) ≡ true → edit_why o ≡ None
-edits_sound o fine is = edited_by o (kind_at o) fine refl ∙ unbuilt_sound (kind_at o) is
 
 -- a supported WAVE file is of the kind of WAVE files
 none_first : (t : Bool) (x : Why) (rest : Option Why) → or_else (first ((not t, x) ∷ [])) rest ≡ None → t ≡ true

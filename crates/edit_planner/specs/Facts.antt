@@ -14,8 +14,8 @@ use Rattle.field_model.specs.Kind.{KindModel}
 use Rattle.field_model.specs.Lawful.{IsLawful}
 use Rattle.edit_planner.specs.declared.plans.FileMap.{FileMap}
 use Rattle.edit_planner.specs.declared.plans.FileMap.TheVariants.{Wave, Avi, Mov}
-use Rattle.edit_planner.specs.Kinds.{edit_why, model_in}
-use Rattle.edit_planner.specs.Plan.{Maps, SoundMap, fields_in, streams_in, told_in, total_len, unbuilt_in}
+use Rattle.edit_planner.specs.Kinds.{model_in}
+use Rattle.edit_planner.specs.Plan.{Maps, SoundMap, fields_in, streams_in, told_in, total_len}
 use Rattle.track_samples.specs.Places.{AllInside, TablesLie}
 
 -- the range whose checksum is told
@@ -37,7 +37,7 @@ pub record TellsOf (k : KindModel) (o : List ℕ) (m : FileMap) : Type 0 where
   -- where there are tracks, the bodies that hold their samples are the essence
   pub bodies : ((told_in m).tracks ≡ []) ⊎ ((told_in m).mdats ≡ k.essence o)
 
--- The map was read of the depot: it is that of the file and tells what it is and whether it can be edited, its fields are lawful
+-- The map was read of the depot: it is that of the file and tells what it is, its fields are lawful
 -- and in field order, and its range, the bodies of its essence and the tables of its tracks lie inside the file.
 pub record IsRead (d : Disk) (m : FileMap) : Type 0 where
   pub mapped : (o : List ℕ) → Holds d o → Maps o m
@@ -47,19 +47,6 @@ pub record IsRead (d : Disk) (m : FileMap) : Type 0 where
   pub ordered : IsMap (told_in m).fields
   pub inside : IfSome (hashed_in m) (λ s. Inside (s.at + s.len) d)
   pub small : IfSome (hashed_in m) (λ s. s.at + s.len < 2 ^ 63)
-  pub editable : (o : List ℕ) → Holds d o → edit_why o ≡ unbuilt_in m
   pub bodies_ascend : Ascends 0 (told_in m).mdats
   pub bodies_inside : AllInside d (told_in m).mdats
   pub tables : AllByRecursion (TablesLie d) (told_in m).tracks
-
--- why no map of a file that is to be edited is read: the first reason against that, where it is one
-abbrev pub RefusesEdit : List ℕ → ReadFault → Type 0
-RefusesEdit o (read.Why w) = edit_why o ≡ Some w
-RefusesEdit o read.Depot = ⊤
-RefusesEdit o read.Memory = ⊤
-
--- the fault tells why edits of the map's kind aren't built
-abbrev pub IsUnbuilt : FileMap → ReadFault → Type 0
-IsUnbuilt m (read.Why w) = unbuilt_in m ≡ Some w
-IsUnbuilt m read.Depot = ⊥
-IsUnbuilt m read.Memory = ⊥

@@ -1,11 +1,8 @@
 -- The kind of a file by its first 12 bytes, and what that kind is to an edit (this project's own).
 use Rattle.std.specs.Prelude.{ℕ, List, take, Bool, true, false, Option, Some, None}
-use Rattle.container_model.specs.Tests.{or_else}
 use Rattle.part_tree.specs.Kinds.{kind}
 use Rattle.part_tree.specs.declared.names.Kind.{Kind}
 use Rattle.part_tree.specs.declared.names.Kind.TheVariants.{Avi, Mov}
-use Rattle.part_tree.specs.declared.why.Why.{Why}
-use Rattle.part_tree.specs.declared.why.Why.TheVariants.{NotBuilt}
 use Rattle.field_model.specs.Kind.{KindModel}
 use Rattle.avi_model.specs.Kind.{avi_kind}
 use Rattle.mov_model.specs.Kind.{mov_kind}
@@ -40,11 +37,3 @@ model_of _ = wave_kind
 -- what the kind of a file is
 unfoldable pub model_in : List ℕ → KindModel
 model_in o = model_of (kind_at o)
-
--- why files of a kind aren't edited yet, though they are read
-abbrev pub unbuilt : Option Kind → Option Why
-unbuilt _ = None
-
--- Why a file isn't edited: the first reason for which it is refused, and else that edits of its kind aren't built yet.
-unfoldable pub edit_why : List ℕ → Option Why
-edit_why o = or_else ((model_in o).why o) (unbuilt (kind_at o))

@@ -10,7 +10,6 @@ use Rattle.part_tree.specs.declared.names.Kind.{Kind}
 use Rattle.part_tree.specs.declared.names.Kind.TheVariants as kind
 use Rattle.part_tree.specs.declared.names.Span.{Span}
 use Rattle.part_tree.specs.declared.why.Why.{Why}
-use Rattle.part_tree.specs.declared.why.Why.TheVariants.{NotBuilt}
 use Rattle.part_tree.specs.Fields.{values}
 use Rattle.part_tree.specs.Shows.{Told}
 use Rattle.field_model.specs.Broken.{broken}
@@ -76,12 +75,6 @@ abbrev pub streams_in : FileMap → ℕ
 streams_in (Wave m) = 0
 streams_in (Avi m) = min (length m.streams.items) (2 ^ 32 - 1)
 streams_in (Mov m) = 0
-
--- why files of its kind aren't edited yet
-abbrev pub unbuilt_in : FileMap → Option Why
-unbuilt_in (Wave m) = None
-unbuilt_in (Avi m) = None
-unbuilt_in (Mov m) = None
 
 -- the kind that it tells
 abbrev pub kind_in : FileMap → Kind

@@ -2,10 +2,10 @@
 ghost use Rattle.std.specs.Prelude.{◌≡◌, ◌-◌, ◌^◌, map, min};
 ghost use Rattle.avi_model.specs.Kind.{behind_word};
 ghost use Rattle.edit_planner.specs.Facts.{hashed_in};
-ghost use Rattle.edit_planner.specs.Plan.{streams_in, told_in, told_len, unbuilt_in};
+ghost use Rattle.edit_planner.specs.Plan.{streams_in, told_in, told_len};
 
 use crate::plans::FileMap;
-use part_tree::{Fields, Kind, Shows, Span, Track, Why};
+use part_tree::{Fields, Kind, Shows, Span, Track};
 
 // The length of ranges together, as far as it can be told.
 fn len_of(spans: &[Span]) -> u64
@@ -103,15 +103,6 @@ impl FileMap {
         match self {
             FileMap::Wave(wave) => Some(wave.sound),
             FileMap::Avi(_) | FileMap::Mov(_) => None,
-        }
-    }
-
-    /// Why files of its kind aren't edited yet, where they aren't.
-    pub fn unbuilt(&self) -> Option<Why>
-        ensures { result ≡ unbuilt_in self.now }
-    {
-        match self {
-            FileMap::Wave(_) | FileMap::Avi(_) | FileMap::Mov(_) => None,
         }
     }
 }

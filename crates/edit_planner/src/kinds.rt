@@ -7,8 +7,8 @@ ghost use Rattle.part_tree.specs.Fields.{IsMap};
 ghost use Rattle.field_model.specs.KindReads.{ReadsKind};
 ghost use Rattle.edit_planner.specs.Kinds.{kind_at, model_in};
 ghost use Rattle.edit_planner.specs.Kinds as spec;
-ghost use Rattle.edit_planner.specs.Facts.{IsRead, IsUnbuilt, RefusesEdit};
-ghost use Rattle.edit_planner.specs.Plan.{Maps, SoundMap, unbuilt_in};
+ghost use Rattle.edit_planner.specs.Facts.{IsRead};
+ghost use Rattle.edit_planner.specs.Plan.{Maps, SoundMap};
 
 use crate::plans::FileMap;
 use avi_file::{AviMap, read_avi};
@@ -133,32 +133,5 @@ pub fn read<D: Depot>(alloc: Global, depot: &mut D) -> Result<FileMap, ReadFault
     match read_wave(alloc, depot) {
         Err(fault) => Err(fault),
         Ok(map) => Ok(of_wave(map)),
-    }
-}
-
-// A map of a file that is to be edited, where edits of its kind are built.
-fn to_edit(map: FileMap) -> Result<FileMap, ReadFault>
-    ensures kept { IfOk result (λ kept. kept ≡ map) }
-    ensures built { IfOk result (λ kept. unbuilt_in kept ≡ None) }
-    ensures why { IfErr result (λ fault. IsUnbuilt map fault) }
-{
-    match map.unbuilt() {
-        Some(why) => Err(ReadFault::Why(why)),
-        None => Ok(map),
-    }
-}
-
-/// The map of a file that is to be edited, or the first reason against that: the first one for which the file is refused, and else
-/// that edits of its kind aren't built yet. The depot is only read. `Depot` only where the count of the depot's faults rose.
-pub fn read_to_edit<D: Depot>(alloc: Global, depot: &mut D) -> Result<FileMap, ReadFault>
-    ensures file { (o : List ℕ) → Holds (D.disk depot.old) o → IfErr result (RefusesEdit o) }
-    ensures tells { IfOk result (λ map. IsRead (D.disk depot.old) map) }
-    ensures built { IfOk result (λ map. unbuilt_in map ≡ None) }
-    ensures reads { ReadsOnly (D.disk depot.old) (D.disk depot.new) }
-    ensures cause { result ≡ Err ReadFault.Depot → Rose (D.disk depot.old).faults (D.disk depot.new).faults }
-{
-    match read(alloc, depot) {
-        Err(fault) => Err(fault),
-        Ok(map) => to_edit(map),
     }
 }

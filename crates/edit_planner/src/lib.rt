@@ -29,7 +29,7 @@ mod tops;
 mod wave;
 mod wholes;
 
-pub use kinds::{read, read_to_edit};
+pub use kinds::read;
 pub use part_tree::PlanFault;
 pub use plans::{FileMap, plan};
 pub use wave::{PlaceFault, PlaceRow, places_of};

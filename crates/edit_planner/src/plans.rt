@@ -13,7 +13,7 @@ ghost use Rattle.wave_plan.specs.Frame.{IsFormOf, IsSoundForm};
 ghost use Rattle.wave_model.specs.Kind.{wave_kind};
 ghost use Rattle.wave_plan.specs.Widened.{FitsReserved};
 ghost use Rattle.edit_planner.specs.Kinds.{model_in};
-ghost use Rattle.edit_planner.specs.Plan.{IsReady, Maps, SoundMap, fields_in, kind_in, reserved_in, streams_in, unbuilt_in, widening_in};
+ghost use Rattle.edit_planner.specs.Plan.{IsReady, Maps, SoundMap, fields_in, kind_in, reserved_in, streams_in, widening_in};
 
 use crate::avi_plans::plan_avi;
 use crate::movie::plan_mov;
@@ -102,7 +102,6 @@ pub fn plan<D: Depot>(
 ) -> Result<Plan, PlanFault>
     requires mapped { (b : List ℕ) → Holds (D.disk depot.old) b → Maps b file.now }
     requires sound { SoundMap file.now }
-    requires built { unbuilt_in file.now ≡ None }
     requires ready { IsReady (kind_in file.now) (streams_in file.now) (fields_in file.now) edit.now }
     ensures plans { (b : List ℕ) → Holds (D.disk depot.old) b → IsBytes b → PlansKind (model_in b) b edit.now result }
     ensures can { IfOk result (λ p. CanRun p) }

@@ -12,8 +12,7 @@ use Rattle.part_tree.specs.declared.why.ReadFault.{ReadFault}
 use Rattle.part_tree.specs.declared.why.ReadFault.TheVariants as read
 use Rattle.field_model.specs.KindReads.{Refuses}
 use Rattle.edit_planner.specs.declared.plans.FileMap.{FileMap}
-use Rattle.edit_planner.specs.Kinds.{edit_why, model_in}
-use Rattle.edit_planner.proofs.OfKind.{refused_too}
+use Rattle.edit_planner.specs.Kinds.{model_in}
 use Rattle.part_tree.specs.declared.why.Why.{Why}
 use Rattle.metaedit_top.specs.declared.outcome.Finished.{Finished}
 use Rattle.metaedit_top.specs.declared.outcome.Stop.{Stop}
@@ -21,7 +20,7 @@ use Rattle.metaedit_top.specs.declared.outcome.Stop.TheVariants as stop
 use Rattle.metaedit_top.specs.declared.words.Command.{Command}
 use Rattle.metaedit_top.specs.declared.words.Command.TheVariants as command
 use Rattle.metaedit_top.specs.declared.words.Request.{Request}
-use Rattle.metaedit_top.specs.Asked.{Accepts, AcceptsBy, edit_bytes, edits_file, new_file, new_of, reads_file, run_bytes, why_by, why_in}
+use Rattle.metaedit_top.specs.Asked.{Accepts, AcceptsBy, edit_bytes, edits_file, new_file, new_of, reads_file, run_bytes, why_in}
 use Rattle.metaedit_top.specs.Run.{HasTold, MayLeave}
 use Rattle.metaedit_top.specs.Stage.{ActLeaves, ActStops, Acts, IsSettled, stop_of_read, stop_of_report}
 use Rattle.metaedit_top.specs.Told.{Fixes, ReportsBy, no_edit, recovered_line, summary_by}
@@ -46,14 +45,6 @@ alone_on file a b reads alone = record {
 
 pub not_true : false ≡ true → ⊥
 not_true e = absurd cc
-
--- a file that is refused is refused for every command
-refused_by : (c : Command) (o : List ℕ) (w : Why) → (model_in o).why o ≡ Some w → why_by c o ≡ Some w
-refused_by c o w is = go (edits_file c)
-  where
-    go : (t : Bool) → cond t (edit_why o) (why_in o) ≡ Some w
-    go true = refused_too o w is
-    go false = is
 
 module _ (q : Request) (stood : Bool) (a b : Disk) (reads : ReadsOnly a b) where
   leaves_it : (s : Stop) → ActStops q a b s → ActLeaves q a b s
@@ -88,14 +79,14 @@ module _ (q : Request) (stood : Bool) (a b : Disk) (reads : ReadsOnly a b) where
 
   read_stops : (fault : ReadFault) → reads_file q.command ≡ true → ((o : List ℕ) → Holds a o → Refuses (model_in o) o fault)
       → (◌≡◌ {A = Result FileMap ReadFault} (Err fault) (Err read.Depot) → Rose a.faults b.faults) → ActStops q a b (stop_of_read fault)
-  read_stops (read.Why w) reads_it file cause = (reads_it, λ o held. refused_by q.command o w (file o held))
+  read_stops (read.Why w) reads_it file cause = (reads_it, file)
   read_stops read.Depot reads_it file cause = cause refl
   read_stops read.Memory reads_it file cause = tt
 
   -- a file that isn't read
   pub not_read : (fault : ReadFault) (s : Stop) → s ≡ stop_of_read fault → reads_file q.command ≡ true → ((o : List ℕ) → Holds a o → Refuses (model_in o) o fault)
       → (◌≡◌ {A = Result FileMap ReadFault} (Err fault) (Err read.Depot) → Rose a.faults b.faults) → Acts q stood a b (Err s)
-  unfolding stops_here read_stops refused_by
+  unfolding stops_here read_stops
   not_read fault s is reads_it file cause = subst (λ (t : Stop). Acts q stood a b (Err t)) (sym is) (stops_here (stop_of_read fault) (read_stops fault reads_it file cause))
 
   report_stops : {T : Type 0} (fault : ReportFault) → (◌≡◌ {A = Result T ReportFault} (Err fault) (Err report.Depot) → Rose a.faults b.faults) → ActStops q a b (stop_of_report fault)

@@ -165,7 +165,6 @@ still_read a b m reads of = record {
   ordered = of.ordered;
   inside = inside_on a b (hashed_in m) reads of.inside;
   small = of.small;
-  editable = λ o held. of.editable o (held_before a b o reads held);
   bodies_ascend = of.bodies_ascend;
   bodies_inside = λ o held. of.bodies_inside o (held_before a b o reads held);
   tables = tables_on a b (told_in m).tracks reads of.tables;

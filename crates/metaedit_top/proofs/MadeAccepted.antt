@@ -8,7 +8,7 @@ use Rattle.part_tree.specs.declared.names.Kind.TheVariants as kind
 use Rattle.field_model.specs.Broken.{broken}
 use Rattle.field_model.specs.Kind.{KindModel}
 use Rattle.edit_planner.specs.Kinds.{is_sound}
-use Rattle.edit_planner.proofs.OfKind.{edits_sound, of_kind}
+use Rattle.edit_planner.proofs.OfKind.{of_kind}
 use Rattle.me_generate.specs.Stated.{IsMade, stated}
 use Rattle.me_generate.specs.Titled.{set_title}
 use Rattle.me_generate.proofs.Titles.{small, unbroken}
@@ -82,7 +82,7 @@ wave_accepted n is =
     let o = stated kind.Wave n in
     record {
       supported =
-          edits_sound o (of_kind (λ (m : KindModel). m.why o ≡ None) o (Some kind.Wave) (wave_first n) (no_refusal n is)) (ap is_sound (wave_first n));
+          of_kind (λ (m : KindModel). m.why o ≡ None) o (Some kind.Wave) (wave_first n) (no_refusal n is);
       unbroken = of_kind (λ (m : KindModel). broken (m.kind o) (m.streams o) (m.fields o) set_title Base ≡ None) o (Some kind.Wave) (wave_first n) (unbroken n is);
       small = of_kind (λ (m : KindModel). m.too_large o set_title ≡ None) o (Some kind.Wave) (wave_first n) (small n is);
     }

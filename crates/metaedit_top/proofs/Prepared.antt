@@ -29,7 +29,7 @@ use Rattle.edit_journal.specs.Settled.{Settles, StandsAlone}
 use Rattle.field_model.specs.Broken.{broken}
 use Rattle.field_model.specs.Fields.{FieldMap}
 use Rattle.field_model.specs.Kind.{Edited, SameEdit}
-use Rattle.field_model.specs.KindReads.{Declines, IsForm, IsPlanOf}
+use Rattle.field_model.specs.KindReads.{Declines, IsForm, IsPlanOf, Refuses}
 use Rattle.field_model.specs.Update.{effective}
 use Rattle.field_model.proofs.Effective.{all_effective}
 use Rattle.file_swap.specs.Midway.{SettlesEither}
@@ -38,11 +38,10 @@ use Rattle.file_swap.specs.Swap.{Swapping, fresh}
 use Rattle.me_report.specs.declared.line.Summary.{Summary}
 use Rattle.me_report.specs.Done.{done_line}
 use Rattle.edit_planner.specs.declared.plans.FileMap.{FileMap}
-use Rattle.edit_planner.specs.Facts.{IsRead, RefusesEdit, TellsOf}
+use Rattle.edit_planner.specs.Facts.{IsRead, TellsOf}
 use Rattle.edit_planner.specs.Kinds.{model_in}
-use Rattle.edit_planner.specs.Kinds.{edit_why}
-use Rattle.edit_planner.specs.Plan.{IsReady, fields_in, kind_in, streams_in, told_in, unbuilt_in}
-use Rattle.edit_planner.proofs.OfKind.{fine_too, law}
+use Rattle.edit_planner.specs.Plan.{IsReady, fields_in, kind_in, streams_in, told_in}
+use Rattle.edit_planner.proofs.OfKind.{law}
 use Rattle.metaedit_top.specs.declared.outcome.Finished.{Finished}
 use Rattle.metaedit_top.specs.declared.outcome.Prepared.{Prepared}
 use Rattle.metaedit_top.specs.declared.outcome.Stop.{Stop}
@@ -208,21 +207,21 @@ module _ (rules : RuleSet) (all : List EditItem) (a b : Disk) (reads : ReadsOnly
   unfolding refuses
   prepare_no_memory s is = subst (λ (t : Stop). Prepares rules all a b (Err t)) (sym is) (refuses stop.Memory tt)
 
-  read_stops : (fault : ReadFault) → ((o : List ℕ) → Holds a o → RefusesEdit o fault)
+  read_stops : (fault : ReadFault) → ((o : List ℕ) → Holds a o → Refuses (model_in o) o fault)
       → (◌≡◌ {A = Result FileMap ReadFault} (Err fault) (Err read.Depot) → Rose a.faults b.faults) → PrepareStops rules all a b (stop_of_read fault)
   read_stops (read.Why w) file cause = file
   read_stops read.Depot file cause = cause refl
   read_stops read.Memory file cause = tt
 
   -- a file that isn't read
-  pub not_read : (fault : ReadFault) (s : Stop) → s ≡ stop_of_read fault → ((o : List ℕ) → Holds a o → RefusesEdit o fault)
+  pub not_read : (fault : ReadFault) (s : Stop) → s ≡ stop_of_read fault → ((o : List ℕ) → Holds a o → Refuses (model_in o) o fault)
       → (◌≡◌ {A = Result FileMap ReadFault} (Err fault) (Err read.Depot) → Rose a.faults b.faults) → Prepares rules all a b (Err s)
   unfolding refuses read_stops
   not_read fault s is file cause = subst (λ (t : Stop). Prepares rules all a b (Err t)) (sym is) (refuses (stop_of_read fault) (read_stops fault file cause))
 
-  module _ (m : FileMap) (of : IsRead a m) (built : unbuilt_in m ≡ None) where
-    can_edit : (o : List ℕ) → Holds a o → edit_why o ≡ None
-    can_edit o held = of.editable o held ∙ built
+  module _ (m : FileMap) (of : IsRead a m) where
+    can_edit : (o : List ℕ) → Holds a o → (model_in o).why o ≡ None
+    can_edit o held = (of.tells o held).supported
 
     -- a rule is broken
     pub rule_stops : (found : Broken) → Some found ≡ broken (kind_in m) (streams_in m) (fields_in m) all rules → Prepares rules all a b (Err (stop.RuleBroken found))
@@ -351,7 +350,7 @@ module _ (q : Request) (edits : edits_file q.command ≡ true) (by_edit : (o : L
 
   edited : Edited (model_in o) o q.edit (new_file o q.edit)
   edited =
-      (law o).edited o q.edit bytes (fine_too o ready.accepts.supported)
+      (law o).edited o q.edit bytes ready.accepts.supported
       (base_fine ((model_in o).kind o) ((model_in o).streams o) (fields_of o) q.edit q.rules ready.accepts.unbroken) ready.accepts.small
 
   run_by : (redone : ℕ) (a c : Disk) → StandsAlone (new_file o q.edit) c → c.slots.work ≡ None → c.written ≡ a.written + (redone + edit_bytes o q.edit) → HasRun q o redone a c
@@ -369,7 +368,7 @@ module _ (q : Request) (edits : edits_file q.command ≡ true) (by_edit : (o : L
   unfolding run_by
   run_idle is redone a c alone work written =
       let still : changes o q.edit ≡ false = subst (λ (x : Option Swapping). MakesEdit x q.edit o) is ready.makes in
-      let idle = (law o).idle o q.edit bytes (fine_too o ready.accepts.supported) (no_effect (effective (fields_of o) q.edit) still) in
+      let idle = (law o).idle o q.edit bytes ready.accepts.supported (no_effect (effective (fields_of o) q.edit) still) in
       let nothing : edit_bytes o q.edit ≡ 0 = ap (λ (t : Bool). cond t (change_bytes o q.edit) 0) still in
       run_by redone a c (subst (λ (file : List ℕ). StandsAlone file c) (sym idle.0) alone) work (omega (arith, written, nothing))
 

@@ -25,7 +25,6 @@ use Rattle.metaedit_top.specs.declared.words.Command.{Command}
 use Rattle.metaedit_top.specs.declared.words.Command.TheVariants as command
 use Rattle.metaedit_top.specs.declared.words.Request.{Request}
 use Rattle.metaedit_top.specs.Asked.{Accepts, AcceptsBy, AcceptsEdit, edits_file, reads_file, run_bytes, why_in}
-use Rattle.edit_planner.specs.Kinds.{edit_why}
 use Rattle.metaedit_top.specs.Changed.{CarriedBy, IsFresh, IsPrepared, OnSwap, PrepareStops, Prepares, in_front}
 use Rattle.metaedit_top.specs.Run.{HasTold, MayLeave}
 use Rattle.metaedit_top.specs.Stage.{ActLeaves, ActStops, Acts, HasActed, IsSettled}
@@ -139,7 +138,7 @@ module _ (q : Request) (edits_it : edits_file q.command ≡ true) where
     stops_so stop.NoFile h = absurd h
     stops_so stop.FileThere h = absurd h
     stops_so (stop.Damaged at) h = absurd h
-    stops_so (stop.NotSupported w) h = (reads_it, λ o held. ap (λ (t : Bool). cond t (edit_why o) (why_in o)) edits_it ∙ h o held)
+    stops_so (stop.NotSupported w) h = (reads_it, h)
     stops_so (stop.RuleBroken w) h = (edits_it, h)
     stops_so (stop.TooLarge size limit) h = (edits_it, h)
     stops_so stop.Memory h = tt

@@ -25,9 +25,8 @@ use Rattle.metaedit_top.specs.declared.table.TableStop.TheVariants as table
 use Rattle.metaedit_top.specs.declared.words.Command.{Command}
 use Rattle.metaedit_top.specs.declared.words.Command.TheVariants as command
 use Rattle.metaedit_top.specs.declared.words.Request.{Request}
-use Rattle.edit_planner.specs.Kinds.{edit_why}
 use Rattle.metaedit_top.specs.Answered.{AcceptsWords, AsksToMake, Because, Ends, EndsUnprinted, FixesBy, MayStandOf, TakesTable, TellsTable}
-use Rattle.metaedit_top.specs.Asked.{AcceptsBy, AcceptsEdit, Accepts, broken_by, edits_file, reads_file, too_large, why_by, why_in}
+use Rattle.metaedit_top.specs.Asked.{AcceptsBy, AcceptsEdit, Accepts, broken_by, edits_file, reads_file, too_large, why_in}
 use Rattle.metaedit_top.specs.Begun.{Begins, BeginsBy, IsClear, LeavesBy, MakeStops, MayStandBy, OnBegun, StandsBy, StopsBy, StopsIn, bytes_before, made_of}
 use Rattle.metaedit_top.specs.Run.{AreBytes, HasRun, HasTold, Stops, has_journal}
 use Rattle.metaedit_top.specs.Tables.{Asks, EditsBy, GivesEdit, HasTableFault, RefusesTable, RunsAs, asks_table, form_of, made_edit, reads_table, table_of, takes_table, with_edit}
@@ -268,7 +267,7 @@ edit_by command.Md5 q o h is = absurd (not_true is)
 edit_by command.Export q o h is = absurd (not_true is)
 
 -- one that reads a file finds it supported
-read_by : (c : Command) (q : Request) (o : List ℕ) → AcceptsBy c q.rules q.edit o → reads_file c ≡ true → why_by c o ≡ None
+read_by : (c : Command) (q : Request) (o : List ℕ) → AcceptsBy c q.rules q.edit o → reads_file c ≡ true → why_in o ≡ None
 read_by command.Set q o h is = h.supported
 read_by command.Apply q o h is = h.supported
 read_by command.Make q o h is = h.supported
@@ -310,7 +309,7 @@ module _ (q : Request) (a b : Disk) (o : List ℕ) (tells : IsTrue a.tells) (byt
     never_there stop.FileThere h quiet = absurd h
     never_there (stop.Damaged at) h quiet = (h tells).nothing (Some o) settles
     never_there (stop.NotSupported w) h quiet =
-        let x = h.1 tells in no_none (sym (read_by q.command q o accepts h.0) ∙ ap (why_by q.command) (sym (same_file x.0 x.1)) ∙ x.2)
+        let x = h.1 tells in no_none (sym (read_by q.command q o accepts h.0) ∙ ap why_in (sym (same_file x.0 x.1)) ∙ x.2)
     never_there (stop.RuleBroken w) h quiet =
         let x = h.1 tells in
         no_none (sym (edit_by q.command q o accepts h.0).unbroken ∙ ap (λ (p : List ℕ). broken_by q.rules q.edit p) (sym (same_file x.0 x.1)) ∙ x.2.broken)
@@ -344,9 +343,7 @@ module _ (q : Request) (a b : Disk) (o : List ℕ) (tells : IsTrue a.tells) (byt
     never_made stop.FileThere h quiet = no_main a.slots.main a.slots.journal none (h tells)
     never_made (stop.Damaged at) h quiet = no_journal a.slots.main a.slots.journal none (h tells).journal
     never_made (stop.NotSupported w) h quiet =
-        let o = made_of q in
-        let edits : why_by q.command o ≡ edit_why o = ap (λ (t : Bool). cond t (edit_why o) (why_in o)) (makes_edits q.command makes) in
-        no_none (sym (edits ∙ edit_made.supported) ∙ (h tells).1)
+        no_none (sym edit_made.supported ∙ (h tells).1)
     never_made (stop.RuleBroken w) h quiet = no_none (sym edit_made.unbroken ∙ (h tells).1.broken)
     never_made (stop.TooLarge size limit) h quiet = no_none (sym edit_made.small ∙ (h tells).1.large)
     never_made stop.Memory h quiet = tt

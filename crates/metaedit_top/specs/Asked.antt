@@ -12,7 +12,7 @@ use Rattle.field_model.specs.Fields.{FieldMap}
 use Rattle.field_model.specs.Kind.{Edited}
 use Rattle.field_model.specs.Update.{effective}
 use Rattle.edit_journal.specs.Journal.{bytes_in_place}
-use Rattle.edit_planner.specs.Kinds.{edit_why, model_in}
+use Rattle.edit_planner.specs.Kinds.{model_in}
 use Rattle.edit_planner.specs.Plan.{total_len}
 use Rattle.metaedit_top.specs.declared.words.Command.{Command}
 use Rattle.metaedit_top.specs.declared.words.Command.TheVariants as command
@@ -80,9 +80,9 @@ change_bytes o e = if has_room o e then bytes_in_place ((model_in o).patches o e
 abbrev pub edit_bytes : List ℕ → List EditItem → ℕ
 edit_bytes o e = if changes o e then change_bytes o e else 0
 
--- The file is supported and can be edited, the edit breaks none of the rules, and nothing of the new file is too large.
+-- The file is supported, the edit breaks none of the rules, and nothing of the new file is too large.
 pub record AcceptsEdit (rules : RuleSet) (e : List EditItem) (o : List ℕ) : Type 0 where
-  pub supported : edit_why o ≡ None
+  pub supported : why_in o ≡ None
   pub unbroken : broken_by rules e o ≡ None
   pub small : too_large o e ≡ None
 
@@ -109,10 +109,6 @@ edits_file command.Md5 = false
 edits_file command.Export = false
 edits_file command.Apply = true
 edits_file command.Make = true
-
--- why a command refuses a file: where it edits, also that edits of the file's kind aren't built
-abbrev pub why_by : Command → List ℕ → Option Why
-why_by c o = if edits_file c then edit_why o else why_in o
 
 -- nothing stands against a command on a file
 abbrev pub AcceptsBy : Command → RuleSet → List EditItem → List ℕ → Type 0

@@ -15,7 +15,7 @@ use Rattle.metaedit_top.specs.declared.outcome.Finished.{Finished}
 use Rattle.metaedit_top.specs.declared.outcome.Stop.{Stop}
 use Rattle.metaedit_top.specs.declared.outcome.Stop.TheVariants as stop
 use Rattle.metaedit_top.specs.declared.words.Request.{Request}
-use Rattle.metaedit_top.specs.Asked.{run_bytes, why_by}
+use Rattle.metaedit_top.specs.Asked.{run_bytes, why_in}
 use Rattle.metaedit_top.specs.Run.{AreBytes, HasRun, HasTold, IsEither, IsOneStop, IsRefused, IsTooLarge, LeavesAt, StandsNew, Stops, has_journal}
 use Rattle.metaedit_top.specs.Told.{Fixes}
 use Rattle.metaedit_top.specs.Words.{makes_file}
@@ -83,7 +83,7 @@ MakeStops q old new stop.NoFile = ⊥
 MakeStops q old new stop.FileThere = IsTrue old.tells → IsSome old.slots.main
 MakeStops q old new (stop.Damaged at) = IsTrue old.tells → IsLeftover old.slots at
 MakeStops q old new (stop.NotSupported w) =
-    IsTrue old.tells → IsClear old.slots × (why_by q.command (made_of q) ≡ Some w)
+    IsTrue old.tells → IsClear old.slots × (why_in (made_of q) ≡ Some w)
 MakeStops q old new (stop.RuleBroken b) = IsTrue old.tells → IsClear old.slots × IsRefused q.rules q.edit (made_of q) b
 MakeStops q old new (stop.TooLarge size limit) =
     IsTrue old.tells → IsClear old.slots × IsTooLarge q.rules q.edit (made_of q) (record { size = size; limit = limit })

@@ -16,7 +16,7 @@ use Rattle.field_model.specs.KindReads.{IsPlanOf}
 use Rattle.file_swap.specs.Swap.{Runs, Swapping, fresh}
 use Rattle.me_report.specs.declared.line.Summary.{Summary}
 use Rattle.me_report.specs.Done.{done_line}
-use Rattle.edit_planner.specs.Kinds.{edit_why, model_in}
+use Rattle.edit_planner.specs.Kinds.{model_in}
 use Rattle.metaedit_top.specs.declared.outcome.Finished.{Finished}
 use Rattle.metaedit_top.specs.declared.outcome.Prepared.{Prepared}
 use Rattle.metaedit_top.specs.declared.outcome.Stop.{Stop}
@@ -99,7 +99,7 @@ PrepareStops rules e old new stop.Depot = Rose old.faults new.faults
 PrepareStops rules e old new stop.NoFile = ⊥
 PrepareStops rules e old new stop.FileThere = ⊥
 PrepareStops rules e old new (stop.Damaged at) = ⊥
-PrepareStops rules e old new (stop.NotSupported w) = OnHeld old (λ o. edit_why o ≡ Some w)
+PrepareStops rules e old new (stop.NotSupported w) = OnHeld old (λ o. (model_in o).why o ≡ Some w)
 PrepareStops rules e old new (stop.RuleBroken b) = OnHeld old (λ o. IsRefused rules e o b)
 PrepareStops rules e old new (stop.TooLarge size limit) =
     OnHeld old (λ o. IsBytes o → IsTooLarge rules e o (record { size = size; limit = limit }))

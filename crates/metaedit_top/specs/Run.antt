@@ -16,8 +16,7 @@ use Rattle.metaedit_top.specs.declared.outcome.Stop.{Stop}
 use Rattle.metaedit_top.specs.declared.outcome.Stop.TheVariants as stop
 use Rattle.metaedit_top.specs.declared.words.Request.{Request}
 use Rattle.metaedit_top.specs.declared.outcome.Finished.{Finished}
-use Rattle.metaedit_top.specs.Asked.{Accepts, IsEdited, broken_by, edits_file, new_of, reads_file, run_bytes, too_large, why_by}
-use Rattle.edit_planner.specs.Kinds.{edit_why}
+use Rattle.metaedit_top.specs.Asked.{Accepts, IsEdited, broken_by, edits_file, new_of, reads_file, run_bytes, too_large, why_in}
 use Rattle.metaedit_top.specs.Told.{Fixes, Reports, summary}
 
 -- ---- what a crash may leave
@@ -70,13 +69,13 @@ pub record HasTold (q : Request) (o : List ℕ) (stood : Bool) (f : Finished) : 
 
 -- a size of the new file passes its limit, and nothing else stands against the edit
 pub record IsTooLarge (rules : RuleSet) (e : List EditItem) (o : List ℕ) (size : Size) : Type 0 where
-  pub supported : edit_why o ≡ None
+  pub supported : why_in o ≡ None
   pub unbroken : broken_by rules e o ≡ None
   pub large : too_large o e ≡ Some size
 
--- the file can be edited, and this is the first rule that the edit breaks
+-- the file is supported, and this is the first rule that the edit breaks
 pub record IsRefused (rules : RuleSet) (e : List EditItem) (o : List ℕ) (b : Broken) : Type 0 where
-  pub supported : edit_why o ≡ None
+  pub supported : why_in o ≡ None
   pub broken : broken_by rules e o ≡ Some b
 
 -- The file that the state at entry stands for stands alone, and a crash at any moment would have left what stands for
@@ -98,7 +97,7 @@ Stops q old new stop.Depot = Rose old.faults new.faults
 Stops q old new stop.NoFile = IsTrue old.tells → old.slots.main ≡ None
 Stops q old new stop.FileThere = ⊥
 Stops q old new (stop.Damaged at) = IsTrue old.tells → IsBroken old.slots at
-Stops q old new (stop.NotSupported w) = (reads_file q.command ≡ true) × OnFile old (λ o. why_by q.command o ≡ Some w)
+Stops q old new (stop.NotSupported w) = (reads_file q.command ≡ true) × OnFile old (λ o. why_in o ≡ Some w)
 Stops q old new (stop.RuleBroken b) = (edits_file q.command ≡ true) × OnFile old (λ o. IsRefused q.rules q.edit o b)
 Stops q old new (stop.TooLarge size limit) =
     (edits_file q.command ≡ true)

@@ -18,7 +18,7 @@ use Rattle.metaedit_top.specs.declared.outcome.Finished.{Finished}
 use Rattle.metaedit_top.specs.declared.outcome.Stop.{Stop}
 use Rattle.metaedit_top.specs.declared.outcome.Stop.TheVariants as stop
 use Rattle.metaedit_top.specs.declared.words.Request.{Request}
-use Rattle.metaedit_top.specs.Asked.{edits_file, reads_file, run_bytes, why_by}
+use Rattle.metaedit_top.specs.Asked.{edits_file, reads_file, run_bytes, why_in}
 use Rattle.metaedit_top.specs.Run.{HasRun, HasTold, IsRefused, IsTooLarge, MayLeave}
 use Rattle.metaedit_top.specs.Told.{Fixes}
 
@@ -42,7 +42,7 @@ ActStops q old new stop.Depot = Rose old.faults new.faults
 ActStops q old new stop.NoFile = ⊥
 ActStops q old new stop.FileThere = ⊥
 ActStops q old new (stop.Damaged at) = ⊥
-ActStops q old new (stop.NotSupported w) = (reads_file q.command ≡ true) × OnHeld old (λ o. why_by q.command o ≡ Some w)
+ActStops q old new (stop.NotSupported w) = (reads_file q.command ≡ true) × OnHeld old (λ o. why_in o ≡ Some w)
 ActStops q old new (stop.RuleBroken b) = (edits_file q.command ≡ true) × OnHeld old (λ o. IsRefused q.rules q.edit o b)
 ActStops q old new (stop.TooLarge size limit) =
     (edits_file q.command ≡ true)

@@ -5,7 +5,7 @@ ghost use Rattle.me_report.specs.Done.{done_line as line_of};
 ghost use Rattle.edit_journal.specs.Settled.{StandsAlone};
 ghost use Rattle.part_tree.specs.Plans.{Belongs};
 ghost use Rattle.edit_planner.specs.Facts.{IsRead};
-ghost use Rattle.edit_planner.specs.Plan.{IsReady, fields_in, kind_in, streams_in, told_in, unbuilt_in};
+ghost use Rattle.edit_planner.specs.Plan.{IsReady, fields_in, kind_in, streams_in, told_in};
 ghost use Rattle.metaedit_top.specs.Changed.{CarriedBy, IsFresh, OnSwap, StartsChange};
 ghost use Rattle.metaedit_top.specs.Changed as spec;
 
@@ -54,7 +54,6 @@ pub(crate) fn start_change<D: Depot>(
     edit: &Edit,
 ) -> Result<Prepared, Stop>
     requires read { IsRead (D.disk depot.old) map.now }
-    requires built { unbuilt_in map.now ≡ None }
     requires ready { IsReady (kind_in map.now) (streams_in map.now) (fields_in map.now) edit.now }
     ensures { StartsChange edit.now (told_in map.now).payload (D.disk depot.old) (D.disk depot.new) result }
 {

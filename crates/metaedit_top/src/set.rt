@@ -10,7 +10,7 @@ use crate::change::{carry_out, start_change, tell_edit};
 use crate::outcome::{Finished, Prepared, Stop};
 use crate::words::Request;
 use core_edit::{Edit, effective};
-use edit_planner::read_to_edit;
+use edit_planner::read;
 use fadgi_rules::first_broken;
 use me_disk::Depot;
 use me_report::Summary;
@@ -27,7 +27,7 @@ pub(crate) fn prepare<D: Depot>(
 ) -> Result<Prepared, Stop>
     ensures { Prepares rules edit.now (D.disk depot.old) (D.disk depot.new) result }
 {
-    let map = read_to_edit(alloc, depot)?;
+    let map = read(alloc, depot)?;
     match first_broken(map.kind(), map.streams(), map.fields(), edit, rules) {
         Some(broken) => return Err(Stop::RuleBroken(broken)),
         None => {}

@@ -1,7 +1,6 @@
 use Rattle.std.proofs.Common.{◌≡◌, List, ℕ, true, false, Some, refl, sym, ap, ◌∙◌, subst}
 use Rattle.me_disk.specs.Holds.{Holds}
 use Rattle.me_disk.proofs.Holds.{holds_on}
-use Rattle.part_tree.specs.declared.why.Why.TheVariants.{NotBuilt}
 use Rattle.field_model.specs.KindReads.{Refuses}
 use Rattle.edit_planner.specs.Facts.{IsRead}
 use Rattle.edit_planner.specs.Kinds.{is_avi, is_mov, is_sound, kind_at}

@@ -17,7 +17,7 @@ use Rattle.metaedit_top.proofs.set.prepare.Goals as goal
 pub returns-in_err-map : goal.returns-in_err-map
 returns-in_err-map g c =
     let a = g.D.Depot.disk c.args.depot.now in
-    let b = g.D.Depot.disk c.read_to_edit.new.depot in
+    let b = g.D.Depot.disk c.read.new.depot in
     let fault = c.in_err-map.field-0.0 in
     let same : c.from_residual.result ≡ Err (stop_of_read fault) = search rules in
     subst (Prepares c.args.rules c.args.edit.now a b) (sym same)
@@ -32,46 +32,46 @@ effective-requires g c = subst (λ (es : List Entry). IsLawful (values es)) (sym
 pub returns-in-Some : goal.returns-in-Some
 returns-in-Some g c =
     let m = c.in_ok-map.map in
-    rule_stops c.args.rules c.args.edit.now (g.D.Depot.disk c.args.depot.now) (g.D.Depot.disk c.read_to_edit.new.depot) c.in_ok-map.ensures.reads m c.in_ok-map.ensures.tells c.in_ok-map.ensures.built c.in-Some.broken
+    rule_stops c.args.rules c.args.edit.now (g.D.Depot.disk c.args.depot.now) (g.D.Depot.disk c.read.new.depot) c.in_ok-map.ensures.reads m c.in_ok-map.ensures.tells c.in-Some.broken
     (broken_in m c.kind.result c.streams.result c.fields.result.now c.args.edit.now c.args.rules (Some c.in-Some.broken) c.kind.ensures c.streams.ensures c.fields.ensures c.in-Some.ensures)
 
 pub returns-in_err-edit : goal.returns-in_err-edit
 returns-in_err-edit g c =
     let a = g.D.Depot.disk c.args.depot.now in
-    let b = g.D.Depot.disk c.read_to_edit.new.depot in
+    let b = g.D.Depot.disk c.read.new.depot in
     let same : c.from_residual-in_err-edit.result ≡ Err stop.Memory = search rules in
     subst (Prepares c.args.rules c.args.edit.now a b) (sym same) (prepare_no_memory c.args.rules c.args.edit.now a b c.in_ok-map.ensures.reads stop.Memory refl)
 
 pub returns-in_err-finished : goal.returns-in_err-finished
 returns-in_err-finished g c =
     let a = g.D.Depot.disk c.args.depot.now in
-    let b = g.D.Depot.disk c.read_to_edit.new.depot in
+    let b = g.D.Depot.disk c.read.new.depot in
     let same : c.from_residual-in_err-finished.result ≡ Err stop.Memory = search rules in
     subst (Prepares c.args.rules c.args.edit.now a b) (sym same) (prepare_no_memory c.args.rules c.args.edit.now a b c.in_ok-map.ensures.reads stop.Memory refl)
 
 pub returns-then-is_empty : goal.returns-then-is_empty
 returns-then-is_empty g c =
     let a = g.D.Depot.disk c.args.depot.now in
-    let b = g.D.Depot.disk c.read_to_edit.new.depot in
+    let b = g.D.Depot.disk c.read.new.depot in
     let m = c.in_ok-map.map in
     let e = c.in_ok-edit.edit in
     let told = ap (λ n. look_summary n 0) c.payload.ensures in
-    idle c.args.rules c.args.edit.now a b c.in_ok-map.ensures.reads m c.in_ok-map.ensures.tells c.in_ok-map.ensures.built e
+    idle c.args.rules c.args.edit.now a b c.in_ok-map.ensures.reads m c.in_ok-map.ensures.tells e
     (broken_in m c.kind.result c.streams.result c.fields.result.now c.args.edit.now c.args.rules None c.kind.ensures c.streams.ensures c.fields.ensures c.in-None.ensures)
     (c.in_ok-edit.ensures ∙ ap (λ es. effective (values es) c.args.edit.now) c.fields-2.ensures)
     (is_none e (c.if-is_empty.ensures ∙ ap (λ (es : List EditItem). length es == 0) c.items.ensures.items))
     c.in_ok-finished.finished (c.in_ok-finished.ensures.summary ∙ told) (c.in_ok-finished.ensures.text ∙ ap done_line told)
 
 pub start_change-requires-clause-read : goal.start_change-requires-clause-read
-start_change-requires-clause-read g c = still_read (g.D.Depot.disk c.args.depot.now) (g.D.Depot.disk c.read_to_edit.new.depot) c.in_ok-map.map c.in_ok-map.ensures.reads c.in_ok-map.ensures.tells
+start_change-requires-clause-read g c = still_read (g.D.Depot.disk c.args.depot.now) (g.D.Depot.disk c.read.new.depot) c.in_ok-map.map c.in_ok-map.ensures.reads c.in_ok-map.ensures.tells
 
 pub start_change-requires-clause-ready : goal.start_change-requires-clause-ready
 start_change-requires-clause-ready g c =
     let a = g.D.Depot.disk c.args.depot.now in
-    let b = g.D.Depot.disk c.read_to_edit.new.depot in
+    let b = g.D.Depot.disk c.read.new.depot in
     let m = c.in_ok-map.map in
     let e = c.in_ok-edit.edit in
-    ready c.args.rules c.args.edit.now a b c.in_ok-map.ensures.reads m c.in_ok-map.ensures.tells c.in_ok-map.ensures.built e
+    ready c.args.rules c.args.edit.now a b c.in_ok-map.ensures.reads m c.in_ok-map.ensures.tells e
     (broken_in m c.kind.result c.streams.result c.fields.result.now c.args.edit.now c.args.rules None c.kind.ensures c.streams.ensures c.fields.ensures c.in-None.ensures)
     (c.in_ok-edit.ensures ∙ ap (λ es. effective (values es) c.args.edit.now) c.fields-2.ensures)
     (is_some e (c.if-is_empty.ensures ∙ ap (λ (es : List EditItem). length es == 0) c.items.ensures.items))
@@ -79,11 +79,11 @@ start_change-requires-clause-ready g c =
 pub returns : goal.returns
 returns g c =
     let a = g.D.Depot.disk c.args.depot.now in
-    let b = g.D.Depot.disk c.read_to_edit.new.depot in
+    let b = g.D.Depot.disk c.read.new.depot in
     let d = g.D.Depot.disk c.start_change.new.depot in
     let m = c.in_ok-map.map in
     let e = c.in_ok-edit.edit in
-    starts c.args.rules c.args.edit.now a b c.in_ok-map.ensures.reads m c.in_ok-map.ensures.tells c.in_ok-map.ensures.built e
+    starts c.args.rules c.args.edit.now a b c.in_ok-map.ensures.reads m c.in_ok-map.ensures.tells e
     (broken_in m c.kind.result c.streams.result c.fields.result.now c.args.edit.now c.args.rules None c.kind.ensures c.streams.ensures c.fields.ensures c.in-None.ensures)
     (c.in_ok-edit.ensures ∙ ap (λ es. effective (values es) c.args.edit.now) c.fields-2.ensures)
     d (is_some e (c.if-is_empty.ensures ∙ ap (λ (es : List EditItem). length es == 0) c.items.ensures.items)) c.start_change.result c.start_change.ensures
