@@ -1,13 +1,14 @@
 -- The worked plans are plans for the worked file.
-use Rattle.std.proofs.Common.{◌≡◌, ap, inl, inr, List, [], refl, arith, lit<, subst, sym}
+use Rattle.std.proofs.Common.{◌≡◌, ap, inl, inr, ℕ, List, [], Some, refl, arith, lit<, subst, sym}
 use Rattle.part_tree.specs.declared.plan.Patch.{Patch}
 use Rattle.part_tree.specs.declared.plan.Segment.{Segment}
+use Rattle.part_tree.specs.declared.plan.Plan.{Plan}
 use Rattle.part_tree.specs.declared.plan.Plan.TheVariants.{InPlace, Rewrite}
-use Rattle.me_disk.specs.Disk.{Disk}
+use Rattle.me_disk.specs.Disk.{Disk, Only, plain}
 use Rattle.edit_journal.specs.Strips.{cut}
 use Rattle.edit_journal.specs.Journal.{Journal, spelled}
-use Rattle.edit_journal.specs.Settled.{StandsAlone}
-use Rattle.file_swap.specs.Swap.{Swapping, fresh, Underway}
+use Rattle.edit_journal.specs.Settled.{Stands}
+use Rattle.file_swap.specs.Swap.{Swapping, fresh, IsSure, Underway}
 use Rattle.file_swap.proofs.Installs.{begins}
 use Rattle.part_tree.specs.Plans.{CanRun, Belongs}
 use Rattle.edit_journal.specs.Journal.Journal.{version_1}
@@ -46,11 +47,15 @@ can_patch ps is = subst (λ (qs : List Patch). CanRun (InPlace 48 72 qs)) (sym i
 pub can_rewrite : (ss : List Segment) → Rewrite 72 [] ss ≡ rewrite → CanRun (Rewrite 72 [] ss)
 can_rewrite ss is = subst CanRun (sym is) adds_up
 
-pub in_place_begins : (s : Swapping) (d : Disk) → s ≡ fresh in_place → StandsAlone file d → Underway s file d
-in_place_begins s d is alone = subst (λ (x : Swapping). Underway x file d) (sym is) (begins d in_place file alone (λ tells. in_place_belongs))
+pub in_place_begins : (s : Swapping) (d : Disk) → s ≡ fresh in_place → Stands file d → Underway s file d
+in_place_begins s d is stands = subst (λ (x : Swapping). Underway x file d) (sym is) (begins d in_place file stands (λ tells. in_place_belongs))
 
-pub rewrite_begins : (s : Swapping) (d : Disk) → s ≡ fresh rewrite → StandsAlone file d → Underway s file d
-rewrite_begins s d is alone = subst (λ (x : Swapping). Underway x file d) (sym is) (begins d rewrite file alone (λ tells. rewrite_belongs))
+pub rewrite_begins : (s : Swapping) (d : Disk) → s ≡ fresh rewrite → Stands file d → Underway s file d
+rewrite_begins s d is stands = subst (λ (x : Swapping). Underway x file d) (sym is) (begins d rewrite file stands (λ tells. rewrite_belongs))
+
+-- before the first call the only image is the file
+pub surely : (p : Plan) (s : Swapping) (o : List ℕ) (d : Disk) → s ≡ fresh p → Only (plain (Some o)) d → IsSure s o d
+surely p s o d is only = subst (λ (x : Swapping). IsSure x o d) (sym is) (λ i h. only i h)
 
 pub in_place_is : (ps : List Patch) → ps ≡ patches → InPlace 48 72 ps ≡ in_place
 unfolding in_place

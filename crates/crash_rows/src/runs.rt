@@ -3,13 +3,13 @@ ghost use Rattle.std.specs.Prelude.{[], ◌≡◌, ◌↔◌, IfErr, IfOk, IsSom
 ghost use Rattle.part_tree.specs.declared.plan.Segment.TheVariants.{Copy};
 ghost use Rattle.part_tree.specs.declared.plan.Plan.TheVariants.{InPlace, Rewrite};
 ghost use Rattle.part_tree.specs.Plans.{applied};
-ghost use Rattle.me_disk.specs.Disk.{held, Leaves, Only, read_as};
+ghost use Rattle.me_disk.specs.Disk.{held, plain, Leaves, Only, read_as};
 ghost use Rattle.me_disk.specs.Memory.{items_of, memory_disk};
 ghost use Rattle.me_disk.specs.Steps.{ReadsOnly};
 ghost use Rattle.edit_journal.specs.Damage.{damage_over};
 ghost use Rattle.edit_journal.specs.Journal.{spelled};
 ghost use Rattle.edit_journal.specs.Reads.{OnDamaged};
-ghost use Rattle.edit_journal.specs.Settled.{Settles, StandsAlone};
+ghost use Rattle.edit_journal.specs.Settled.{Settles, Stands, StandsAlone};
 ghost use Rattle.file_swap.specs.Midway.{SettlesEither};
 ghost use Rattle.file_swap.specs.Swap.{fresh};
 ghost use Rattle.recovery.specs.Recovered.{IsRefusal, Recovers};
@@ -130,20 +130,26 @@ pub fn stop(depot: &mut MemoryDepot, n: u64)
 
 /// Runs the edit in place, and says whether it was done.
 pub fn run_in_place<D: Depot>(depot: &mut D, swap: Swap) -> bool
-    requires alone { StandsAlone file (D.disk depot.old) }
+    requires stands { Stands file (D.disk depot.old) }
     requires swap { swap ≡ fresh in_place }
-    ensures done { IsTrue result → StandsAlone (applied in_place file) (D.disk depot.new) }
-    ensures crash { Leaves (SettlesEither file (applied in_place file)) (D.disk depot.old) (D.disk depot.new) }
+    ensures done { IsTrue result → Stands (applied in_place file) (D.disk depot.new) }
+    ensures alone { StandsAlone file (D.disk depot.old) → IsTrue result
+        → StandsAlone (applied in_place file) (D.disk depot.new) }
+    ensures crash { Only (plain (Some file)) (D.disk depot.old)
+        → Leaves (SettlesEither file (applied in_place file)) (D.disk depot.old) (D.disk depot.new) }
 {
     swap.run(depot).is_ok()
 }
 
 /// Runs the rewrite, and says whether it was done.
 pub fn run_rewrite<D: Depot>(depot: &mut D, swap: Swap) -> bool
-    requires alone { StandsAlone file (D.disk depot.old) }
+    requires stands { Stands file (D.disk depot.old) }
     requires swap { swap ≡ fresh rewrite }
-    ensures done { IsTrue result → StandsAlone (applied rewrite file) (D.disk depot.new) }
-    ensures crash { Leaves (SettlesEither file (applied rewrite file)) (D.disk depot.old) (D.disk depot.new) }
+    ensures done { IsTrue result → Stands (applied rewrite file) (D.disk depot.new) }
+    ensures alone { StandsAlone file (D.disk depot.old) → IsTrue result
+        → StandsAlone (applied rewrite file) (D.disk depot.new) }
+    ensures crash { Only (plain (Some file)) (D.disk depot.old)
+        → Leaves (SettlesEither file (applied rewrite file)) (D.disk depot.old) (D.disk depot.new) }
 {
     swap.run(depot).is_ok()
 }
@@ -179,7 +185,6 @@ pub fn stopped_rewrite(alloc: Global, n: u64, pick: Pick) -> Result<MemoryDepot,
 
 /// A recovery that is stopped after so many calls, and the depot opened again.
 pub fn stopped_recovery(mut depot: MemoryDepot, n: u64, pick: Pick) -> MemoryDepot
-    requires { Only (read_as (memory_disk depot).slots) (memory_disk depot) }
     ensures { Only (read_as (memory_disk result).slots) (memory_disk result) }
 {
     stop(&mut depot, n);
@@ -189,10 +194,10 @@ pub fn stopped_recovery(mut depot: MemoryDepot, n: u64, pick: Pick) -> MemoryDep
 
 /// What a recovery of the depot answers.
 pub fn recovery_of(depot: &mut MemoryDepot) -> Result<Recovered, RecoverFault>
-    requires { Only (read_as (memory_disk depot.old).slots) (memory_disk depot.old) }
     ensures done { OnOk result (Recovers (memory_disk depot.old) (memory_disk depot.new)) }
     ensures refusal { IfErr result (λ e. IsRefusal e → ReadsOnly (memory_disk depot.old) (memory_disk depot.new)) }
-    ensures crash { Leaves (SettlesAlike (read_as (memory_disk depot.old).slots)) (memory_disk depot.old)
+    ensures crash { Only (read_as (memory_disk depot.old).slots) (memory_disk depot.old)
+        → Leaves (SettlesAlike (read_as (memory_disk depot.old).slots)) (memory_disk depot.old)
         (memory_disk depot.new) }
 {
     recover(depot)
@@ -200,7 +205,6 @@ pub fn recovery_of(depot: &mut MemoryDepot) -> Result<Recovered, RecoverFault>
 
 /// Whether a recovery is done, and leaves this file alone.
 pub fn is_recovered(mut depot: MemoryDepot, want: &[u8]) -> bool
-    requires { Only (read_as (memory_disk depot).slots) (memory_disk depot) }
     ensures { IsTrue result → Settles (Some want.now) (read_as (memory_disk depot).slots) }
 {
     recovery_of(&mut depot).is_ok() && holds_alone(&depot, want)

@@ -1,9 +1,9 @@
 // A worked rewrite with tables: an `idx1` that counts from the start of the file, a standard index with two fields, and chunk
 // places of two pages, before the bytes that they name.
 ghost use Rattle.std.specs.Prelude.{◌≡◌, ◌≢◌, ◌*◌, ◌≤◌, IfOk, IfSome, IsTrue, length, Some, None};
-ghost use Rattle.me_disk.specs.Disk.{Leaves, Only, bytes_of, read_as};
+ghost use Rattle.me_disk.specs.Disk.{Leaves, Only, bytes_of, plain, read_as};
 ghost use Rattle.me_disk.specs.Memory.{memory_disk};
-ghost use Rattle.edit_journal.specs.Settled.{StandsAlone};
+ghost use Rattle.edit_journal.specs.Settled.{Stands, StandsAlone};
 ghost use Rattle.part_tree.specs.declared.table.TableForm.TheVariants.{Widen};
 ghost use Rattle.part_tree.specs.Plans.{Belongs, applied};
 ghost use Rattle.part_tree.specs.Tables.{HasBase, RowsNamed, width};
@@ -183,11 +183,13 @@ pub fn is_for(alloc: Global, file: &[u8]) -> Result<bool, NoMemory>
 /// Runs the rewrite, and says whether it was done.
 pub fn run_tables<D: Depot>(depot: &mut D, swap: Swap) -> bool
     requires swap { swap ≡ fresh tables }
-    requires alone { StandsAlone (bytes_of (D.disk depot.old).slots.main) (D.disk depot.old) }
+    requires stands { Stands (bytes_of (D.disk depot.old).slots.main) (D.disk depot.old) }
     requires belongs { IsTrue (D.disk depot.old).tells → Belongs tables (bytes_of (D.disk depot.old).slots.main) }
-    ensures done { IsTrue result → StandsAlone (applied tables (bytes_of (D.disk depot.old).slots.main))
+    ensures done { IsTrue result → Stands (applied tables (bytes_of (D.disk depot.old).slots.main))
         (D.disk depot.new) }
-    ensures crash { Leaves
+    ensures alone { StandsAlone (bytes_of (D.disk depot.old).slots.main) (D.disk depot.old) → IsTrue result
+        → StandsAlone (applied tables (bytes_of (D.disk depot.old).slots.main)) (D.disk depot.new) }
+    ensures crash { Only (plain (Some (bytes_of (D.disk depot.old).slots.main))) (D.disk depot.old) → Leaves
         (SettlesEither (bytes_of (D.disk depot.old).slots.main)
         (applied tables (bytes_of (D.disk depot.old).slots.main))) (D.disk depot.old) (D.disk depot.new) }
 {

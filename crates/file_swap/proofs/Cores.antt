@@ -1,5 +1,5 @@
 -- A turn of a swap's machine.
-use Rattle.std.proofs.Common.{◌≡◌, ℕ, ◌+◌, ◌<◌, min, Bool, false, List, [], ◌∷◌, length, refl, sym, ◌∙◌, ap, subst, arith}
+use Rattle.std.proofs.Common.{◌≡◌, ℕ, ◌+◌, ◌≤◌, ◌<◌, min, Bool, false, List, [], ◌∷◌, length, refl, sym, ◌∙◌, ap, subst, arith}
 use Rattle.std.specs.Prelude.{Result, Ok, Err}
 use Rattle.me_disk.specs.declared.depot.DepotFault.{DepotFault}
 use Rattle.part_tree.specs.declared.plan.Plan.{Plan}
@@ -8,9 +8,9 @@ use Rattle.me_disk.specs.Steps.{Writes}
 use Rattle.file_swap.specs.Steps.{Step, Change, changed, steps, calls, step_at, step_bytes}
 use Rattle.file_swap.specs.Steps.Step.{Appends}
 use Rattle.part_tree.specs.Plans.{CanRun, Belongs}
-use Rattle.file_swap.specs.Midway.{Midway, IsNear, held_at}
+use Rattle.file_swap.specs.Midway.{Midway, Phase, IsNear, held_at}
 use Rattle.file_swap.specs.Fits.{StepDoes, Permits, HoldsAfter}
-use Rattle.file_swap.specs.Swap.{fresh, Underway, TurnWrites}
+use Rattle.file_swap.specs.Swap.{fresh, Underway, IsSure, TurnWrites}
 use Rattle.file_swap.specs.declared.machine.Turn.{Turn}
 use Rattle.file_swap.specs.declared.machine.Turn.TheVariants.{Fault}
 use Rattle.file_swap.specs.declared.machine.Machine.{Machine}
@@ -20,7 +20,7 @@ use Rattle.file_swap.specs.Machines.{plan_of, left, step_of, held_of, IsMachine,
 use Rattle.file_swap.proofs.Stages as Stages
 use Rattle.file_swap.proofs.Copies as Copies
 use Rattle.file_swap.proofs.Rests.{first_made, first_rest, rest_none, rest_some, next_low, next_step, next_made, next_rest}
-use Rattle.file_swap.proofs.Turns.{step_permits, step_midway, step_leaves, step_holds, step_writes, step_tells}
+use Rattle.file_swap.proofs.Turns.{step_permits, step_midway, step_leaves, step_sure, step_holds, step_writes, step_tells, step_later}
 
 -- ---- a machine
 
@@ -48,7 +48,7 @@ first_sound m sound all = record { machine = sound; rest = first_rest (plan_of m
 
 -- ---- a turn
 
-module _ (c : Core) (sound : IsSound c) (some : left c.machine ≡ [] → ⊥) (o : List ℕ) (old new : Disk) (law_old : IsLawful old) (law_new : IsLawful new) (under : Underway (swap_of c) o old) where
+module _ (c : Core) (sound : IsSound c) (some : left c.machine ≡ [] → ⊥) (o : List ℕ) (old new : Disk) (under : Underway (swap_of c) o old) where
   abbrev p : Plan
   p = plan_of c.machine
 
@@ -74,10 +74,16 @@ module _ (c : Core) (sound : IsSound c) (some : left c.machine ≡ [] → ⊥) (
   size = held_length c.machine sound.machine
 
   pub core_permits : Permits s held old
-  core_permits = step_permits p o k s held old new low is size law_old law_new (can_run c.machine sound.machine) under.belongs under.held under.midway
+  core_permits = step_permits p o k s held old new low is size (can_run c.machine sound.machine) under.belongs under.held under.midway
 
-  pub core_leaves : (r : Result Unit DepotFault) → StepDoes s held old new r → Leaves (IsNear p o k) old new
-  core_leaves r does = step_leaves p o k s held old new low is size law_old law_new (can_run c.machine sound.machine) under.belongs under.held under.midway r does
+  pub core_leaves : IsLawful old → (r : Result Unit DepotFault) → StepDoes s held old new r → IsSure (swap_of c) o old → Leaves (IsNear p o k) old new
+  core_leaves law_old r does sure = step_leaves p o k s held old new low is size (can_run c.machine sound.machine) under.belongs under.held under.midway law_old sure r does
+
+  pub core_tells : (r : Result Unit DepotFault) → StepDoes s held old new r → new.tells ≡ old.tells
+  core_tells r does = step_tells s held old new r does
+
+  pub core_later : (r : Result Unit DepotFault) → StepDoes s held old new r → old.faults ≤ new.faults
+  core_later r does = step_later s held old new r does
 
   pub core_writes : (r : Result Unit DepotFault) → StepDoes s held old new r → Writes (step_bytes (step_at p k)) old new r
   core_writes r does = subst (λ (x : Step). Writes (step_bytes x) old new r) (sym is) (step_writes s held old new r size does)
@@ -113,12 +119,17 @@ module _ (c : Core) (sound : IsSound c) (some : left c.machine ≡ [] → ⊥) (
     pub core_underway : (x : Unit {0}) → c.failed ≡ f → StepDoes s held old new (Ok x) → HoldsAfter s (held_of next) old → Underway (swap_of (record { machine = next; failed = f })) o new
     core_underway x flag does holds =
         let tells = step_tells s held old new (Ok x) does in
-        let mid : Midway p o (k + 1) new = step_midway p o k s held old new low is size law_old law_new (can_run c.machine sound.machine) under.belongs under.held under.midway x does in
+        let mid : Midway p o (k + 1) new = step_midway p o k s held old new low is size (can_run c.machine sound.machine) under.belongs under.held under.midway x does in
         record {
           unfailed = sym flag ∙ under.unfailed;
           belongs = λ t. subst (λ (q : Plan). Belongs q o) (sym same) (under.belongs (sym tells ∙ t));
           held = λ t.
-              step_holds p o k s held old new low is size law_old law_new (can_run c.machine sound.machine) under.belongs under.held under.midway (held_of next) (sym tells ∙ t) holds
+              step_holds p o k s held old new low is size (can_run c.machine sound.machine) under.belongs under.held under.midway (held_of next) (sym tells ∙ t) holds
               ∙ (λ i. held_at (sym same i) o (sym core_made i));
           midway = subst (λ (q : Plan). Midway q o (made_by (plan_of next) (left next)) new) (sym same) (subst (λ (n : ℕ). Midway p o n new) (sym core_made) mid);
         }
+
+    pub core_sure : IsLawful old → IsLawful new → (x : Unit {0}) → StepDoes s held old new (Ok x) → IsSure (swap_of c) o old → IsSure (swap_of (record { machine = next; failed = f })) o new
+    core_sure law_old law_new x does sure i h =
+        let here : Phase p o (k + 1) i = step_sure p o k s held old new low is size (can_run c.machine sound.machine) under.belongs under.held under.midway law_old law_new sure x does i h in
+        subst (λ (q : Plan). Phase q o (made_by (plan_of next) (left next)) i) (sym same) (subst (λ (n : ℕ). Phase p o n i) (sym core_made) here)

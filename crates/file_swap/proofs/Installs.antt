@@ -7,12 +7,12 @@ use Rattle.part_tree.specs.declared.plan.Segment.{Segment}
 use Rattle.part_tree.specs.declared.plan.Segment.TheVariants.{Copy, Literal, Table}
 use Rattle.part_tree.specs.declared.plan.Plan.{Plan}
 use Rattle.part_tree.specs.declared.plan.Plan.TheVariants.{InPlace, Rewrite}
-use Rattle.me_disk.specs.Disk.{Image, Disk}
+use Rattle.me_disk.specs.Disk.{Image, Disk, Only, plain}
 use Rattle.me_disk.specs.Calls.{Call}
 use Rattle.me_disk.specs.Calls.Call.{BeginWork, AppendWork, SyncWork, DropWork, InstallMain, InstallJournal, WriteMain, SetMainLen, SyncMain, DropJournal}
 use Rattle.me_disk.proofs.Runs.{same_slots}
 use Rattle.edit_journal.specs.Journal.{spelled}
-use Rattle.edit_journal.specs.Settled.{Settles, StandsAlone}
+use Rattle.edit_journal.specs.Settled.{Settles, Stands}
 use Rattle.file_swap.specs.Steps.{Step, Range, block, blocks, page, pages, cut_in, part, appends, writes, segment_steps, cut_steps, end_steps, steps, calls, install_call, bytes_by, bytes_written}
 use Rattle.file_swap.specs.Steps.Change.{Stays, Relocates}
 use Rattle.file_swap.specs.Steps.Step.{Makes, Reads, Appends}
@@ -22,7 +22,7 @@ use Rattle.part_tree.specs.Tables.{width, new_width}
 use Rattle.part_tree.specs.Plans.{applied, CanRun, Belongs}
 use Rattle.file_swap.specs.Midway.Region.{Old}
 use Rattle.file_swap.specs.Midway.{Region, region_after, region_in, regions, region_at, Phase, IsIn}
-use Rattle.file_swap.specs.Swap.{fresh, Underway}
+use Rattle.file_swap.specs.Swap.{fresh, Underway, IsSure}
 use Rattle.file_swap.proofs.Midways.{settles_old, settles_new}
 use Rattle.file_swap.proofs.Written.{by_all}
 
@@ -157,17 +157,19 @@ all_written p can = by_all p (calls p) can (omega arith)
 
 -- ---- the start
 
-pub begins : (d : Disk) (p : Plan) (o : List ℕ) → StandsAlone o d → (IsTrue d.tells → Belongs p o) → Underway (fresh p) o d
-begins d p o alone belongs = record {
+pub begins : (d : Disk) (p : Plan) (o : List ℕ) → Stands o d → (IsTrue d.tells → Belongs p o) → Underway (fresh p) o d
+begins d p o stands belongs = record {
   unfailed = refl;
   belongs = belongs;
   held = λ tells. refl;
   midway = record {
     leftover = d.slots.work;
     at = record {
-      state = alone.state;
-      slots = λ tells. same_slots d.slots (record { main = Some o; journal = None; work = d.slots.work }) (alone.main tells) (alone.journal tells) refl;
-      images = alone.only;
+      state = stands.state;
+      slots = λ tells. same_slots d.slots (record { main = Some o; journal = None; work = d.slots.work }) (stands.main tells) (stands.journal tells) refl;
     };
   };
 }
+
+pub begins_sure : (d : Disk) (p : Plan) (o : List ℕ) → Only (plain (Some o)) d → IsSure (fresh p) o d
+begins_sure d p o only i h = only i h

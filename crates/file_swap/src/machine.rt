@@ -1,5 +1,5 @@
 // The machine of a swap, for plans of both kinds.
-ghost use Rattle.std.specs.Prelude.{◌≡◌, ◌≢◌, ◌+◌, ◌<◌, ◌∷◌, [], false, true, min, ℕ, List, IsTrue, IfOk, OnOk, OnErr, ◌↔◌};
+ghost use Rattle.std.specs.Prelude.{◌≡◌, ◌≢◌, ◌+◌, ◌≤◌, ◌<◌, ◌∷◌, [], false, true, min, ℕ, List, IsTrue, IfOk, OnOk, OnErr, ◌↔◌};
 ghost use Rattle.part_tree.specs.declared.plan.Plan.{Plan};
 ghost use Rattle.me_disk.specs.Causes.{Rose};
 ghost use Rattle.me_disk.specs.Disk.{Leaves};
@@ -8,7 +8,7 @@ ghost use Rattle.file_swap.specs.Steps.{steps, calls, step_at, step_bytes};
 ghost use Rattle.part_tree.specs.Plans.{CanRun};
 ghost use Rattle.file_swap.specs.Fits.{Permits, StepDoes, HoldsAfter};
 ghost use Rattle.file_swap.specs.Midway.{IsNear};
-ghost use Rattle.file_swap.specs.Swap.{fresh, next_calls, Underway, Runs, TurnWrites};
+ghost use Rattle.file_swap.specs.Swap.{fresh, next_calls, Underway, IsSure, TurnWrites};
 
 use crate::in_place::Patching;
 use crate::rewrite::Rewriting;
@@ -127,8 +127,13 @@ impl Core {
         ensures done { result ≡ Turn.Done → (swap_of self.new).made ≡ calls (swap_of self.old).plan }
         ensures underway { result ≢ Turn.Fault → Underway (swap_of self.new) old (D.disk depot.new) }
         ensures fault { result ≡ Turn.Fault → swap_of self.new ≡ record (swap_of self.old) { failed = true } }
-        ensures crash { Leaves (IsNear (swap_of self.old).plan old (swap_of self.old).made) (D.disk depot.old)
+        ensures crash { IsSure (swap_of self.old) old (D.disk depot.old)
+            → Leaves (IsNear (swap_of self.old).plan old (swap_of self.old).made) (D.disk depot.old)
             (D.disk depot.new) }
+        ensures sure { result ≢ Turn.Fault → IsSure (swap_of self.old) old (D.disk depot.old)
+            → IsSure (swap_of self.new) old (D.disk depot.new) }
+        ensures tells { (D.disk depot.new).tells ≡ (D.disk depot.old).tells }
+        ensures later { (D.disk depot.old).faults ≤ (D.disk depot.new).faults }
         ensures written { TurnWrites (step_bytes (step_at (swap_of self.old).plan (swap_of self.old).made))
             (D.disk depot.old) (D.disk depot.new) result }
         ensures cause { result ≡ Turn.Fault → Rose (D.disk depot.old).faults (D.disk depot.new).faults }

@@ -1,12 +1,12 @@
 // A swap, as its callers see it.
-ghost use Rattle.std.specs.Prelude.{◌≡◌, ◌≢◌, ◌+◌, ◌-◌, ◌<◌, true, min, ℕ, List, IfOk};
+ghost use Rattle.std.specs.Prelude.{◌≡◌, ◌≢◌, ◌+◌, ◌-◌, ◌≤◌, ◌<◌, true, min, ℕ, List, IfOk};
 ghost use Rattle.me_disk.specs.Causes.{Rose};
 ghost use Rattle.me_disk.specs.Disk.{Leaves};
 ghost use Rattle.me_disk.specs.Steps.{Counted};
 ghost use Rattle.file_swap.specs.Steps.{calls, step_at, step_bytes};
 ghost use Rattle.part_tree.specs.Plans.{CanRun};
 ghost use Rattle.file_swap.specs.Midway.{IsNear};
-ghost use Rattle.file_swap.specs.Swap.{fresh, next_calls, Underway, Runs, RunCounts, TurnWrites};
+ghost use Rattle.file_swap.specs.Swap.{fresh, next_calls, Underway, IsSure, Runs, RunCounts, TurnWrites};
 
 use crate::machine::{Core, Turn};
 use me_disk::{Depot, DepotFault};
@@ -44,8 +44,9 @@ impl Swap {
         })
     }
 
-    /// Makes the next call of the plan's list, and none after the last. At each moment of it a crash leaves what it may leave
-    /// before the call or after it. It takes no memory.
+    /// Makes the next call of the plan's list, and none after the last. Where each image is one after the calls made so
+    /// far, a crash at each moment of it leaves what it may leave before the call or after it, and each image behind it is
+    /// one after this call. It takes no memory.
     pub fn turn<D: Depot>(&mut self, depot: &mut D) -> Turn
         ghost old: { List ℕ }
         requires { Underway self.old old (D.disk depot.old) }
@@ -56,7 +57,12 @@ impl Swap {
         ensures done { result ≡ Turn.Done → self.new.made ≡ calls self.old.plan }
         ensures underway { result ≢ Turn.Fault → Underway self.new old (D.disk depot.new) }
         ensures fault { result ≡ Turn.Fault → self.new ≡ record self.old { failed = true } }
-        ensures crash { Leaves (IsNear self.old.plan old self.old.made) (D.disk depot.old) (D.disk depot.new) }
+        ensures crash { IsSure self.old old (D.disk depot.old)
+            → Leaves (IsNear self.old.plan old self.old.made) (D.disk depot.old) (D.disk depot.new) }
+        ensures sure { result ≢ Turn.Fault → IsSure self.old old (D.disk depot.old)
+            → IsSure self.new old (D.disk depot.new) }
+        ensures tells { (D.disk depot.new).tells ≡ (D.disk depot.old).tells }
+        ensures later { (D.disk depot.old).faults ≤ (D.disk depot.new).faults }
         ensures written { TurnWrites (step_bytes (step_at self.old.plan self.old.made)) (D.disk depot.old)
             (D.disk depot.new) result }
         ensures cause { result ≡ Turn.Fault → Rose (D.disk depot.old).faults (D.disk depot.new).faults }
@@ -66,8 +72,9 @@ impl Swap {
         self.core.turn(depot)
     }
 
-    /// Makes all the calls that are left. At each moment of it a crash leaves what stands for the old file or for the new
-    /// one; at Ok the new file stands alone. It takes no memory.
+    /// Makes all the calls that are left; at Ok the new file stands. Where each image is one after the calls made so far,
+    /// a crash at each moment of it leaves what stands for the old file or for the new one, and at Ok the new file alone.
+    /// It takes no memory.
     pub fn run<D: Depot>(mut self, depot: &mut D) -> Result<(), DepotFault>
         ghost old: { List ℕ }
         requires { Underway self old (D.disk depot.old) }

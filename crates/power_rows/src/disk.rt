@@ -1,7 +1,14 @@
 // Files in memory, by what they held since they were last made safe.
+ghost use Rattle.std.specs.Prelude.{◌≡◌, ◌+◌, ◌-◌, ◌<◌, ◌∷◌, ◌++◌, [], nat_lt, is_ok, IfOk, IfSome, OnOk, None, Some, option_copied, length, map};
+ghost use Rattle.std.specs.Option.{option_map};
+ghost use Rattle.me_disk.specs.Memory.{items_of};
+ghost use Rattle.me_disk.specs.declared.depot.Slot.TheVariants.{Main, Journal, Work};
+ghost use Rattle.power_rows.specs.Power.{file_left, file_of, from_back, garbled, held, kept_byte, left_under, torn};
+
 use me_bytes::NoMemory;
 use me_disk::{DepotFault, Slot};
 use std::alloc::Global;
+use std::marker::Model;
 
 // What stands where the power was cut within a write.
 const GARBAGE: u8 = 0xee;
@@ -28,8 +35,25 @@ pub struct PowerDisk {
     calls: u64,
 }
 
+impl Model for PowerDisk {
+    ghost use Rattle.std.specs.Prelude.{map};
+    ghost use Rattle.power_rows.specs.Power.{Power, contents_of};
+
+    ghost Value = { Power };
+
+    ghost view = { λ d. record {
+      files = map contents_of d.files.items;
+      main = d.main.items;
+      journal = d.journal.items;
+      work = d.work.items;
+      calls = d.calls;
+    } };
+}
+
 // A list that holds this alone.
-fn only<T: Drop>(alloc: Global, item: T) -> Result<Vec<T>, NoMemory> {
+fn only<T: Drop>(alloc: Global, item: T) -> Result<Vec<T>, NoMemory>
+    ensures { IfOk result (λ v. v.items ≡ item ∷ []) }
+{
     let mut items = Vec::new(alloc);
     match items.push(item) {
         Ok(()) => Ok(items),
@@ -38,12 +62,34 @@ fn only<T: Drop>(alloc: Global, item: T) -> Result<Vec<T>, NoMemory> {
 }
 
 impl PowerDisk {
-    /// A disk that holds these, all of it safe.
+    /// A disk that holds these, all of it safe, and has no work file.
+    ///
+    /// # Errors
+    ///
+    /// `NoMemory` where there is none for the lists.
     pub fn new(
         alloc: Global,
         main: Option<Vec<u8>>,
         journal: Option<Vec<u8>>,
-    ) -> Result<PowerDisk, NoMemory> {
+    ) -> Result<PowerDisk, NoMemory>
+        ensures main { IfOk result (λ d. held Main d ≡ items_of main) }
+        ensures journal { IfOk result (λ d. held Journal d ≡ items_of journal) }
+        ensures work { IfOk result (λ d. held Work d ≡ None) }
+    {
+        PowerDisk::with_work(alloc, main, journal, None)
+    }
+
+    // A disk that holds these, all of it safe.
+    fn with_work(
+        alloc: Global,
+        main: Option<Vec<u8>>,
+        journal: Option<Vec<u8>>,
+        work: Option<Vec<u8>>,
+    ) -> Result<PowerDisk, NoMemory>
+        ensures main { IfOk result (λ d. held Main d ≡ items_of main) }
+        ensures journal { IfOk result (λ d. held Journal d ≡ items_of journal) }
+        ensures work { IfOk result (λ d. held Work d ≡ items_of work) }
+    {
         let mut disk = PowerDisk {
             alloc,
             files: Vec::new(alloc),
@@ -60,16 +106,26 @@ impl PowerDisk {
             let file = disk.add(bytes)?;
             disk.journal = only(alloc, Some(file))?;
         }
+        if let Some(bytes) = work {
+            let file = disk.add(bytes)?;
+            disk.work = only(alloc, Some(file))?;
+        }
         Ok(disk)
     }
 
     /// Cuts the power after so many more calls that change it.
-    pub fn cut_after(&mut self, calls: u64) {
+    pub fn cut_after(&mut self, calls: u64)
+        ensures { self.new ≡ record self.old { calls = calls } }
+    {
         self.calls = calls;
     }
 
     // A new file, which is safe.
-    fn add(&mut self, bytes: Vec<u8>) -> Result<usize, NoMemory> {
+    fn add(&mut self, bytes: Vec<u8>) -> Result<usize, NoMemory>
+        ensures number { IfOk result (λ n. n ≡ length self.old.files) }
+        ensures added { OnOk result
+            (self.new ≡ record self.old { files = self.old.files ++ (bytes.items ∷ []) ∷ [] }) }
+    {
         let contents = only(self.alloc, bytes)?;
         let number = self.files.len();
         match self.files.push(contents) {
@@ -86,7 +142,9 @@ impl PowerDisk {
         }
     }
 
-    pub(crate) fn file(&self, name: Slot) -> Option<usize> {
+    pub(crate) fn file(&self, name: Slot) -> Option<usize>
+        ensures { result ≡ file_of name self.now }
+    {
         let names = match name {
             Slot::Main => &self.main,
             Slot::Journal => &self.journal,
@@ -96,13 +154,18 @@ impl PowerDisk {
     }
 
     /// What a read of the name gives, None where it stands for nothing.
-    pub fn held(&self, name: Slot) -> Option<&[u8]> {
+    pub fn held(&self, name: Slot) -> Option<&[u8]>
+        ensures { option_copied result ≡ held name self.now }
+    {
         let contents = self.files.get(self.file(name)?)?;
         Some(contents.last()?.as_slice())
     }
 
     // A call that changes it, which fails once the power is cut.
-    pub(crate) fn count(&mut self) -> Result<(), DepotFault> {
+    pub(crate) fn count(&mut self) -> Result<(), DepotFault>
+        ensures answer { is_ok result ≡ nat_lt 0 self.old.calls }
+        ensures counted { self.new ≡ record self.old { calls = self.old.calls - 1 } }
+    {
         match self.calls.checked_sub(1) {
             Some(left) => {
                 self.calls = left;
@@ -206,22 +269,32 @@ impl PowerDisk {
         Ok(())
     }
 
+    // What is left of the file of this number.
+    fn file_left(&self, number: usize, step: usize) -> Result<Option<Vec<u8>>, NoMemory>
+        ensures { IfOk result (λ left. items_of left ≡ file_left self.now.files number step) }
+    {
+        match self.files.get(number) {
+            None => Ok(None),
+            Some(contents) => torn(self.alloc, contents, step),
+        }
+    }
+
     // What is left under a name, None where there is no such remainder.
     fn left_of(
         &self,
         names: &[Option<usize>],
         back: usize,
         step: usize,
-    ) -> Result<Option<Option<Vec<u8>>>, NoMemory> {
-        match names.iter().rev().nth(back) {
+    ) -> Result<Option<Option<Vec<u8>>>, NoMemory>
+        ensures { IfOk result
+            (λ left. option_map items_of left ≡ left_under self.now.files names.now back step) }
+    {
+        match from_back(names, back) {
             None => Ok(None),
             Some(None) => Ok(if step == 0 { Some(None) } else { None }),
-            Some(Some(number)) => match self.files.get(*number) {
+            Some(Some(number)) => match self.file_left(number, step)? {
                 None => Ok(None),
-                Some(contents) => match torn(self.alloc, contents, step)? {
-                    None => Ok(None),
-                    Some(bytes) => Ok(Some(Some(bytes))),
-                },
+                Some(bytes) => Ok(Some(Some(bytes))),
             },
         }
     }
@@ -231,25 +304,43 @@ impl PowerDisk {
     /// # Errors
     ///
     /// `NoMemory` where there is none for the copy.
-    pub fn after_cut(&self, left: Left) -> Result<Option<PowerDisk>, NoMemory> {
+    pub fn after_cut(&self, left: Left) -> Result<Option<PowerDisk>, NoMemory>
+        ensures main { IfOk result (λ cut. IfSome cut (λ d. left_under self.now.files self.now.main left.main left.main_bytes
+            ≡ Some (held Main d))) }
+        ensures journal { IfOk result (λ cut. IfSome cut (λ d. left_under self.now.files self.now.journal left.journal
+            left.journal_bytes ≡ Some (held Journal d))) }
+        ensures work { IfOk result (λ cut. IfSome cut (λ d. held Work d ≡ held Work self.now)) }
+    {
         let Some(main) = self.left_of(&self.main, left.main, left.main_bytes)? else {
             return Ok(None);
         };
         let Some(journal) = self.left_of(&self.journal, left.journal, left.journal_bytes)? else {
             return Ok(None);
         };
-        let mut disk = PowerDisk::new(self.alloc, main, journal)?;
-        if let Some(bytes) = self.held(Slot::Work) {
-            let file = disk.add(bytes.to_vec(self.alloc)?)?;
-            disk.work = only(self.alloc, Some(file))?;
-        }
-        Ok(Some(disk))
+        let work = match self.held(Slot::Work) {
+            Some(bytes) => Some(bytes.to_vec(self.alloc)?),
+            None => None,
+        };
+        Ok(Some(PowerDisk::with_work(self.alloc, main, journal, work)?))
+    }
+}
+
+// The one that is so many before the newest.
+fn from_back(names: &[Option<usize>], back: usize) -> Option<Option<usize>>
+    ensures { result ≡ from_back names.now back }
+{
+    if back < names.len() {
+        Some(names[names.len() - 1 - back])
+    } else {
+        None
     }
 }
 
 // The content that is left: at an even step one of those that it had, at an odd one what a cut within the change to the next
 // leaves, which is garbage wherever the two differ and in all that the longer one has more.
-fn torn(alloc: Global, contents: &[Vec<u8>], step: usize) -> Result<Option<Vec<u8>>, NoMemory> {
+fn torn(alloc: Global, contents: &[Vec<u8>], step: usize) -> Result<Option<Vec<u8>>, NoMemory>
+    ensures { IfOk result (λ left. items_of left ≡ torn (map (λ v. v.items) contents.now) step) }
+{
     let Some(before) = contents.get(step / 2) else {
         return Ok(None);
     };
@@ -259,13 +350,32 @@ fn torn(alloc: Global, contents: &[Vec<u8>], step: usize) -> Result<Option<Vec<u
     let Some(after) = contents.get((step / 2).saturating_add(1)) else {
         return Ok(None);
     };
-    let is_longer = before.len() < after.len();
-    let mut mixed = if is_longer { after } else { before }.to_vec(alloc)?;
-    let short = if is_longer { before } else { after };
-    for (k, byte) in mixed.iter_mut().enumerate() {
-        if short.get(k) != Some(byte) {
-            *byte = GARBAGE;
+    if before.len() < after.len() {
+        Ok(Some(garbled(alloc, after, before)?))
+    } else {
+        Ok(Some(garbled(alloc, before, after)?))
+    }
+}
+
+// The first of the two, with garbage wherever the second is another or none.
+fn garbled(alloc: Global, bytes: &[u8], other: &[u8]) -> Result<Vec<u8>, NoMemory>
+    ensures { IfOk result (λ v. v.items ≡ garbled bytes.now other.now) }
+{
+    let mut mixed = Vec::with_capacity(alloc, bytes.len())?;
+    for (k, byte) in bytes.iter().enumerate() {
+        if mixed.push(kept_byte(*byte, other.get(k).copied())).is_err() {
+            return Err(NoMemory);
         }
     }
-    Ok(Some(mixed))
+    Ok(mixed)
+}
+
+// The byte, or garbage where the other is not the same.
+fn kept_byte(byte: u8, other: Option<u8>) -> u8
+    ensures { result ≡ kept_byte byte other }
+{
+    match other {
+        Some(other) if other == byte => byte,
+        _ => GARBAGE,
+    }
 }

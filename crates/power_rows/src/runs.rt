@@ -1,4 +1,7 @@
 // Runs over such a folder.
+ghost use Rattle.std.specs.Prelude.{IfOk, IsTrue};
+ghost use Rattle.power_rows.specs.Power.{HoldsOne};
+
 use crate::disk::PowerDisk;
 use crate::folder::Powered;
 use crash_rows::{edit_by_rewrite, edit_in_place, run_in_place, run_rewrite};
@@ -49,13 +52,22 @@ pub fn is_recovered(
     disk: &mut PowerDisk,
     old: &[u8],
     new: &[u8],
-) -> Result<bool, NoMemory> {
+) -> Result<bool, NoMemory>
+    ensures { IfOk result (λ ok. IsTrue ok → HoldsOne old.now new.now disk.new) }
+{
     if !run_over(alloc, disk, Run::Recovery)? {
         return Ok(false);
     }
+    Ok(holds_one(disk, old, new))
+}
+
+// Whether one of these files stands there, and nothing beside it.
+fn holds_one(disk: &PowerDisk, old: &[u8], new: &[u8]) -> bool
+    ensures { IsTrue result → HoldsOne old.now new.now disk.now }
+{
     let is_one = match disk.held(Slot::Main) {
         Some(bytes) => bytes == old || bytes == new,
         None => false,
     };
-    Ok(is_one && disk.held(Slot::Journal).is_none() && disk.held(Slot::Work).is_none())
+    is_one && disk.held(Slot::Journal).is_none() && disk.held(Slot::Work).is_none()
 }

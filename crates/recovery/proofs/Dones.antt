@@ -36,9 +36,11 @@ held_there m l is = is ∙ ap (λ (x : Option (List ℕ)). Some (bytes_of x)) (s
 pub alone_dropped : (file : List ℕ) (b c : Disk) (x : Unit {0}) → IsLawful b → IsLawful c → (IsTrue b.tells → b.slots.main ≡ Some file) → (IsTrue b.tells → b.slots.journal ≡ None) → Only (plain (Some file)) b → Does DropWork b c (Ok x)
     → StandsAlone (bytes_of c.slots.main) c
 alone_dropped file b c x law_b law_c main journal only does = record {
-  main = λ tells. held_there c.slots.main file (does.main_stays ∙ main (sym does.tells ∙ tells));
-  journal = λ tells. does.journal_stays ∙ journal (sym does.tells ∙ tells);
-  state = does.state;
+  stands = record {
+    main = λ tells. held_there c.slots.main file (does.main_stays ∙ main (sym does.tells ∙ tells));
+    journal = λ tells. does.journal_stays ∙ journal (sym does.tells ∙ tells);
+    state = does.state;
+  };
   only = λ i h.
       let tells = sym does.tells ∙ law_c.told i h in
       only i (does.quiet.images i h) ∙ ap (λ (m : Option (List ℕ)). plain m) (sym (main tells) ∙ sym does.main_stays ∙ held_there c.slots.main file (does.main_stays ∙ main tells));
@@ -49,9 +51,9 @@ pub redo_done : (w : Redo) (a b c : Disk) (x : Unit {0}) → IsLawful b → IsLa
     → (IsTrue b.tells → b.slots.main ≡ Some (made w)) → (IsTrue b.tells → b.slots.journal ≡ None) → Does DropWork b c (Ok x) → Recovers a c
 redo_done w a b c x law_b law_c same entry redo only main journal does =
     let alone = alone_dropped (made w) b c x law_b law_c main journal only does in record {
-      file = λ tells. is_there c.slots.main (bytes_of c.slots.main) (alone.main tells);
-      journal = alone.journal;
-      state = alone.state;
+      file = λ tells. is_there c.slots.main (bytes_of c.slots.main) (alone.stands.main tells);
+      journal = alone.stands.journal;
+      state = alone.stands.state;
       alone = λ one. alone;
       settles = λ tells.
           let t = same ∙ tells in

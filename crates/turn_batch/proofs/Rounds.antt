@@ -1,6 +1,6 @@
 -- One round more, and how many turns are left.
-use Rattle.std.proofs.Common.{◌≡◌, ◌∙◌, ◌⊎◌, inl, inr, ⊎_elim, ℕ, zero, suc, ◌+◌, ◌-◌, ◌<◌, ◌≤◌, min, Bool, true, false, List, [], ◌∷◌, ◌++◌, length, get_or, Option, Some, None, refl, sym, ap, subst, arith}
-use Rattle.std.specs.Prelude.{◌==◌, ◌||◌, ◌↔◌, IsTrue, is_some, if◌then◌else◌}
+use Rattle.std.proofs.Common.{◌≡◌, ◌∙◌, ◌⊎◌, inl, inr, ⊎_elim, ℕ, zero, suc, ◌+◌, ◌-◌, ◌<◌, ◌≤◌, Bool, true, false, List, [], ◌∷◌, ◌++◌, length, get_or, Option, Some, None, refl, sym, ap, subst, arith}
+use Rattle.std.specs.Prelude.{◌==◌, ◌||◌, is_some, if◌then◌else◌}
 use Rattle.std.proofs.lemmas.Bool.{eq-eqb, ne_eqb}
 use Rattle.me_disk.specs.Disk.{Disk, Leaves}
 use Rattle.me_disk.proofs.Runs.{Leaves-trans, rose_sooner}
@@ -10,10 +10,9 @@ use Rattle.file_swap.specs.Steps.{calls, bytes_by, bytes_written}
 use Rattle.file_swap.specs.Midway.{SettlesEither}
 use Rattle.file_swap.specs.Swap.{Swapping}
 use Rattle.turn_batch.specs.declared.member.Member.{Member}
-use Rattle.turn_batch.specs.Members.{open_swap, is_open, some_open, AllLow, IsSound, OnSwap}
+use Rattle.turn_batch.specs.Members.{open_swap, is_open, some_open, AllLow, OnSwap}
 use Rattle.turn_batch.specs.Schedules.{Ready, Goes, Stopped, RanBy, RanEach, RanOpen, Ran, each_once, turns_of}
-use Rattle.turn_batch.proofs.Lows.{low_at}
-use Rattle.turn_batch.proofs.Runs.{all_calls, goes, made, more_closed, closed, no_member, one_if, opened, plan, ran_first, ready_by, some_depot, some_left, turns_more}
+use Rattle.turn_batch.proofs.Runs.{all_calls, goes, made, more_closed, closed, no_member, one_if, opened, plan, ran_first, ready_by, some_depot, some_left, sure, turns_more}
 
 -- ---- a round is a turn of each
 
@@ -64,6 +63,7 @@ module _ (n : ℕ) (s : Swapping) (m : Member) (o : List ℕ) (a b c : Disk) (ra
       inl (record {
         made = omega arith;
         underway = g.underway;
+        sure = λ h. g.sure (sure n s m o a b ran cur is h);
         ended = (λ h. g.ended.0 h ∙ e, λ h. g.ended.1 (h ∙ sym e));
         written = omega arith;
       }))
@@ -72,7 +72,7 @@ module _ (n : ℕ) (s : Swapping) (m : Member) (o : List ℕ) (a b c : Disk) (ra
       inr (record {
         ended = stopped.ended;
         failed = stopped.failed;
-        rose = rose_sooner a.faults b.faults c.faults ran.crash.faults stopped.rose;
+        rose = rose_sooner a.faults b.faults c.faults ran.later stopped.rose;
         written = omega arith;
       })) t.state
     where
@@ -92,7 +92,9 @@ module _ (n : ℕ) (s : Swapping) (m : Member) (o : List ℕ) (a b c : Disk) (ra
     swap = t.swap;
     plan = t.plan ∙ same;
     state = state;
-    crash = Leaves-trans (SettlesEither o (applied s.plan o)) a b c ran.crash (subst (λ (p : Plan). Leaves (SettlesEither o (applied p o)) b c) same t.crash);
+    crash = λ h. Leaves-trans (SettlesEither o (applied s.plan o)) a b c (ran.crash h) (subst (λ (p : Plan). Leaves (SettlesEither o (applied p o)) b c) same (t.crash (sure n s m o a b ran cur is h)));
+    tells = t.tells ∙ ran.tells;
+    later = let x = ran.later in let y = t.later in omega arith;
     least = let x = ran.least in let y = t.least in omega arith;
   }
 

@@ -8,7 +8,7 @@ use Rattle.me_disk.proofs.Runs.{Leaves-refl, rose_sooner}
 use Rattle.part_tree.specs.Plans.{applied, CanRun}
 use Rattle.file_swap.specs.Steps.{calls, bytes_by}
 use Rattle.file_swap.specs.Midway.{SettlesEither}
-use Rattle.file_swap.specs.Swap.{Swapping, Underway}
+use Rattle.file_swap.specs.Swap.{Swapping, Underway, IsSure}
 use Rattle.file_swap.specs.declared.machine.Turn.{Turn}
 use Rattle.file_swap.specs.declared.machine.Turn.TheVariants as turn
 use Rattle.file_swap.proofs.Ends.{HasWritten, run_leaves, written_next, written_most, written_least}
@@ -38,10 +38,13 @@ first_open s m o a is low ready =
       state = inl (record {
         made = omega arith;
         underway = ready;
+        sure = λ h. h;
         ended = (λ h. absurd cc, λ h. absurd (omega arith));
         written = refl;
       });
-      crash = Leaves-refl (SettlesEither o (applied s.plan o)) a;
+      crash = λ h. Leaves-refl (SettlesEither o (applied s.plan o)) a;
+      tells = refl;
+      later = omega arith;
       least = omega arith;
     }
 
@@ -67,9 +70,11 @@ more_closed n s m o a b ran ended = record {
       (λ (goes : Goes n s ran.next m o a b).
       let all : ran.next.made ≡ calls s.plan = goes.ended.0 ended in
       let made = goes.made in
-      inl (record { made = omega arith; underway = goes.underway; ended = goes.ended; written = goes.written }))
+      inl (record { made = omega arith; underway = goes.underway; sure = goes.sure; ended = goes.ended; written = goes.written }))
       (λ (stopped : Stopped s ran.next m a b). inr stopped) ran.state;
   crash = ran.crash;
+  tells = ran.tells;
+  later = ran.later;
   least = ran.least;
 }
 
@@ -113,9 +118,12 @@ module _ (n : ℕ) (s : Swapping) (m : Member) (o : List ℕ) (a b : Disk) (ran 
   pub written : HasWritten s.plan s.made cur.made a b
   written = record { least = ran.least; exact = goes.written ∙ ap (λ (x : Swapping). a.written + bytes_by s.plan x.made) here }
 
+  pub sure : IsSure s o a → IsSure cur o b
+  sure h = subst (λ (x : Swapping). IsSure x o b) here (goes.sure h)
+
   module _ (b' : Disk) (was : Bool) (m' : Member) (answer : BatchTurn) (t : Turned cur was m' o b b' answer) where
-    crash : Leaves (SettlesEither o (applied s.plan o)) a b'
-    crash = run_leaves s.plan cur.plan o cur.made a b b' plan ran.crash t.turned.crash
+    crash : IsSure s o a → Leaves (SettlesEither o (applied s.plan o)) a b'
+    crash h = run_leaves s.plan cur.plan o cur.made a b b' plan (ran.crash h) (t.turned.crash (sure h))
 
     -- a turn that was Ok
     went : (t.turn ≡ turn.Fault → ⊥) → (IsTrue m'.ended ↔ (t.next.made ≡ calls s.plan)) → Goes (n + 1) s t.next m' o a b'
@@ -126,7 +134,7 @@ module _ (n : ℕ) (s : Swapping) (m : Member) (o : List ℕ) (a b : Disk) (ran 
         let counts = t.turned.made ok in
         let next : t.next.made ≡ cur.made + 1 = omega arith in
         let far = written_next s.plan cur.plan s.made cur.made a b b' t.turn plan written t.turned.written ok t.next.made next in
-        record { made = omega arith; underway = t.turned.underway ok; ended = ended; written = far.exact }
+        record { made = omega arith; underway = t.turned.underway ok; sure = λ h. t.turned.sure ok (sure h); ended = ended; written = far.exact }
 
     state : (x : Turn) → t.turn ≡ x → m' ≡ record { swap = Some t.next; ended = ends x; failed = fails x || was } → Goes (n + 1) s t.next m' o a b' ⊎ Stopped s t.next m' a b'
     state turn.More is_turn is_member =
@@ -141,7 +149,7 @@ module _ (n : ℕ) (s : Swapping) (m : Member) (o : List ℕ) (a b : Disk) (ran 
         inr (record {
           ended = ap (λ (x : Member). x.ended) is_member;
           failed = ap (λ (x : Swapping). x.failed) (t.turned.fault is_turn);
-          rose = rose_sooner a.faults b.faults b'.faults ran.crash.faults (t.turned.cause is_turn);
+          rose = rose_sooner a.faults b.faults b'.faults ran.later (t.turned.cause is_turn);
           written = written_most s.plan cur.plan s.made cur.made a b b' t.turn plan written t.turned.written (subst CanRun plan t.turned.runs);
         })
 
@@ -152,6 +160,8 @@ module _ (n : ℕ) (s : Swapping) (m : Member) (o : List ℕ) (a b : Disk) (ran 
       plan = t.turned.plan ∙ plan;
       state = state t.turn refl t.member;
       crash = crash;
+      tells = t.turned.tells ∙ ran.tells;
+      later = let x = ran.later in let y = t.turned.later in omega arith;
       least = written_least s.plan cur.plan s.made cur.made a b b' t.turn plan written t.turned.written;
     }
 

@@ -1,12 +1,12 @@
 -- The members of a batch, and what a turn leaves of one.
-use Rattle.std.specs.Prelude.{◌≡◌, ◌≢◌, ℕ, ◌+◌, ◌<◌, min, Bool, true, false, ◌||◌, if◌then◌else◌, is_some, List, [], ◌∷◌, Option, Some, None, ⊤}
+use Rattle.std.specs.Prelude.{◌≡◌, ◌≢◌, ℕ, ◌+◌, ◌<◌, ◌≤◌, min, Bool, true, false, ◌||◌, if◌then◌else◌, is_some, List, [], ◌∷◌, Option, Some, None, ⊤}
 use Rattle.std.specs.List.{list_any}
 use Rattle.me_disk.specs.Causes.{Rose}
 use Rattle.me_disk.specs.Disk.{Disk, Leaves}
 use Rattle.part_tree.specs.Plans.{CanRun}
 use Rattle.file_swap.specs.Steps.{calls, step_at, step_bytes}
 use Rattle.file_swap.specs.Midway.{IsNear}
-use Rattle.file_swap.specs.Swap.{Swapping, fresh, Underway, TurnWrites}
+use Rattle.file_swap.specs.Swap.{Swapping, fresh, Underway, IsSure, TurnWrites}
 use Rattle.file_swap.specs.declared.machine.Turn.{Turn}
 use Rattle.file_swap.specs.declared.machine.Turn.TheVariants as turn
 use Rattle.turn_batch.specs.declared.member.BatchTurn.{BatchTurn}
@@ -92,7 +92,10 @@ pub record SwapTurned (s next : Swapping) (o : List ℕ) (a b : Disk) (t : Turn)
   pub done : t ≡ turn.Done → next.made ≡ calls s.plan
   pub underway : t ≢ turn.Fault → Underway next o b
   pub fault : t ≡ turn.Fault → next ≡ record s { failed = true }
-  pub crash : Leaves (IsNear s.plan o s.made) a b
+  pub crash : IsSure s o a → Leaves (IsNear s.plan o s.made) a b
+  pub sure : t ≢ turn.Fault → IsSure s o a → IsSure next o b
+  pub tells : b.tells ≡ a.tells
+  pub later : a.faults ≤ b.faults
   pub written : TurnWrites (step_bytes (step_at s.plan s.made)) a b t
   pub cause : t ≡ turn.Fault → Rose a.faults b.faults
 

@@ -5,7 +5,7 @@ use Rattle.me_disk.specs.Disk.{Disk, Leaves}
 use Rattle.part_tree.specs.Plans.{applied}
 use Rattle.file_swap.specs.Steps.{calls, bytes_by, bytes_written}
 use Rattle.file_swap.specs.Midway.{SettlesEither}
-use Rattle.file_swap.specs.Swap.{Swapping, Underway}
+use Rattle.file_swap.specs.Swap.{Swapping, Underway, IsSure}
 use Rattle.turn_batch.specs.declared.member.Member.{Member}
 use Rattle.turn_batch.specs.Members.{open_swap, some_open, IsReady}
 
@@ -27,6 +27,7 @@ Ready disk files ms ds = (i : ℕ) (m : Member) (d : _) → i < length ms → Is
 pub record Goes (n : ℕ) (s next : Swapping) (m : Member) (o : List ℕ) (a b : Disk) : Type 0 where
   pub made : next.made ≡ min (s.made + n) (calls s.plan)
   pub underway : Underway next o b
+  pub sure : IsSure s o a → IsSure next o b
   pub ended : IsTrue m.ended ↔ (next.made ≡ calls s.plan)
   pub written : b.written + bytes_by s.plan s.made ≡ a.written + bytes_by s.plan next.made
 
@@ -43,8 +44,11 @@ pub record RanOpen (n : ℕ) (s : Swapping) (m : Member) (o : List ℕ) (a b : D
   pub swap : m.swap ≡ Some next
   pub plan : next.plan ≡ s.plan
   pub state : Goes n s next m o a b ⊎ Stopped s next m a b
-  -- each image that a crash at some moment might have left stands for its own old file or its own new one
-  pub crash : Leaves (SettlesEither o (applied s.plan o)) a b
+  -- Where each image at first was one after the calls made so far, each that a crash at some moment might have left stands
+  -- for its own old file or its own new one.
+  pub crash : IsSure s o a → Leaves (SettlesEither o (applied s.plan o)) a b
+  pub tells : b.tells ≡ a.tells
+  pub later : a.faults ≤ b.faults
   pub least : a.written ≤ b.written
 
 -- n turns by the swap that makes them: without one, or without turns, nothing changes

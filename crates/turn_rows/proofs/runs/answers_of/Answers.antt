@@ -4,7 +4,7 @@ use Rattle.std.proofs.lemmas.List.{take_more}
 use Rattle.turn_batch.specs.Schedules.{Ran}
 use Rattle.turn_batch.proofs.Runs.{ran_first, ran_ready, ran_more}
 use Rattle.turn_rows.specs.Two.{the_file}
-use Rattle.turn_rows.proofs.Fresh.{both_low, both_ready, two_members}
+use Rattle.turn_rows.proofs.Fresh.{all_settle, both_low, both_ready, two_members}
 use Rattle.turn_rows.proofs.runs.answers_of.Goals as goal
 
 pub loop-i-init : goal.loop-i-init
@@ -45,3 +45,7 @@ loop-i-preserved g c =
       count = let before = c.loop-i.invariant.count in let put = c.in-Ok.ensures.items in grind (arith, common_steps);
       ran = subst (λ (ks : List ℕ). Ran g.D.Depot.disk the_file ks c.args.batch.now c.turn-answer.new.self c.args.depots.now c.turn-answer.new.depots) (sym (take_more c.args.schedule.now k 0 c.loop-i-test.true)) more;
     }
+
+pub returns-clause-crash : goal.returns-clause-crash
+returns-clause-crash g c = λ alone.
+    all_settle g.D.Depot.disk (take c.loop-i.i-index c.args.schedule.now) c.args.batch.now c.loop-i.batch c.args.depots.now c.loop-i.depots c.requires.fresh c.requires.hold alone c.loop-i.invariant.ran

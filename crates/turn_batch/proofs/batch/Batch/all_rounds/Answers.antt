@@ -1,4 +1,4 @@
-use Rattle.std.proofs.Common.{◌≡◌, ◌+◌, ℕ, Some, true, false, length, sym, subst, arith, refl, ap, ◌∙◌}
+use Rattle.std.proofs.Common.{◌+◌, sym, subst, arith, ◌∙◌}
 use Rattle.turn_batch.specs.Members.{AllLow}
 use Rattle.turn_batch.proofs.Rounds.{each_first, each_more, each_ready, fewer_left}
 use Rattle.turn_batch.proofs.batch.Batch.all_rounds.Goals as goal
