@@ -1,13 +1,13 @@
--- A file that stands alone, and what only reads it.
+-- A file that is settled, and what only reads it.
 use Rattle.std.proofs.Common.{◌≡◌, ℕ, List, Bool, true, false, Option, Some, Ok, Err, Result, refl, sym, ap, ◌∙◌, subst, arith, cond}
 use Rattle.std.specs.Prelude.{IsTrue}
 use Rattle.me_bytes.specs.Bytes.{IsBytes}
 use Rattle.me_disk.specs.Causes.{Rose}
-use Rattle.me_disk.specs.Disk.{Image, Disk, IsLawful, Only, bytes_of, read_as}
+use Rattle.me_disk.specs.Disk.{Image, Disk, IsLawful, Only, bytes_of, plain, read_as}
 use Rattle.me_disk.specs.Holds.{Holds}
 use Rattle.me_disk.specs.Steps.{ReadsOnly}
 use Rattle.me_disk.proofs.Runs.{Leaves-reads, ReadsOnly-refl, same_image}
-use Rattle.edit_journal.specs.Settled.{StandsAlone}
+use Rattle.edit_journal.specs.Settled.{Stands}
 use Rattle.part_tree.specs.declared.why.ReadFault.{ReadFault}
 use Rattle.part_tree.specs.declared.why.ReadFault.TheVariants as read
 use Rattle.field_model.specs.KindReads.{Refuses}
@@ -21,26 +21,37 @@ use Rattle.metaedit_top.specs.declared.words.Command.{Command}
 use Rattle.metaedit_top.specs.declared.words.Command.TheVariants as command
 use Rattle.metaedit_top.specs.declared.words.Request.{Request}
 use Rattle.metaedit_top.specs.Asked.{Accepts, AcceptsBy, edit_bytes, edits_file, new_file, new_of, reads_file, run_bytes, why_in}
-use Rattle.metaedit_top.specs.Run.{HasTold, MayLeave}
+use Rattle.metaedit_top.specs.Run.{HasTold, MayLeave, OneImage}
 use Rattle.metaedit_top.specs.Stage.{ActLeaves, ActStops, Acts, IsSettled, stop_of_read, stop_of_report}
 use Rattle.metaedit_top.specs.Told.{Fixes, ReportsBy, no_edit, recovered_line, summary_by}
 use Rattle.me_report.specs.declared.show.ReportFault.{ReportFault}
 use Rattle.me_report.specs.declared.show.ReportFault.TheVariants as report
 
--- what stands alone is all that a crash leaves
-pub alone_only : (file : List ℕ) (d : Disk) → IsLawful d → StandsAlone file d → Only (read_as d.slots) d
-alone_only file d lawful alone i image =
-    let tells = lawful.told i image in
-    let is = alone.only i image in
-    same_image i (read_as d.slots) (ap (λ (j : Image). j.main) is ∙ sym (alone.main tells)) (ap (λ (j : Image). j.journal) is ∙ sym (alone.journal tells))
+-- a depot that tells what it holds reads as the file that stands there
+reads_plain : (file : List ℕ) (d : Disk) → Stands file d → IsTrue d.tells → read_as d.slots ≡ plain (Some file)
+reads_plain file d stands tells = same_image (read_as d.slots) (plain (Some file)) (stands.main tells) (stands.journal tells)
 
--- and it stands alone after calls that only read
-pub alone_on : (file : List ℕ) (a b : Disk) → ReadsOnly a b → StandsAlone file a → StandsAlone file b
-alone_on file a b reads alone = record {
-  main = λ tells. reads.main ∙ alone.main (subst IsTrue reads.tells tells);
-  journal = λ tells. reads.journal ∙ alone.journal (subst IsTrue reads.tells tells);
-  state = reads.work_state ∙ alone.state;
-  only = λ i image. alone.only i (reads.crash.images i image);
+-- where it has one image, a crash leaves that file alone
+pub only_plain : (file : List ℕ) (d : Disk) → IsLawful d → Stands file d → OneImage d → Only (plain (Some file)) d
+unfolding reads_plain
+only_plain file d lawful stands one i image = one i image ∙ reads_plain file d stands (lawful.told i image)
+
+-- and where a crash leaves that file alone, it has one image
+pub one_plain : (file : List ℕ) (d : Disk) → IsLawful d → Stands file d → Only (plain (Some file)) d → OneImage d
+unfolding reads_plain
+one_plain file d lawful stands only i image = only i image ∙ sym (reads_plain file d stands (lawful.told i image))
+
+-- a depot that is only read has one image as before
+pub one_read : (a b : Disk) → OneImage a → ReadsOnly a b → OneImage b
+one_read a b one reads i image =
+    one i (reads.crash.images i image) ∙ same_image (read_as a.slots) (read_as b.slots) (sym reads.main) (sym reads.journal)
+
+-- and its file stands there as before
+pub stands_on : (file : List ℕ) (a b : Disk) → ReadsOnly a b → Stands file a → Stands file b
+stands_on file a b reads stands = record {
+  main = λ tells. reads.main ∙ stands.main (subst IsTrue reads.tells tells);
+  journal = λ tells. reads.journal ∙ stands.journal (subst IsTrue reads.tells tells);
+  state = reads.work_state ∙ stands.state;
 }
 
 pub not_true : false ≡ true → ⊥
@@ -65,8 +76,10 @@ module _ (q : Request) (stood : Bool) (a b : Disk) (reads : ReadsOnly a b) where
     fixes = tt;
     stops = h;
     leaves = leaves_it s h;
-    crash = Leaves-reads (MayLeave q a) a b reads;
-    again = tt;
+    crash = λ one. Leaves-reads (MayLeave q a) a b reads;
+    again = λ one. tt;
+    tells = reads.tells;
+    later = reads.faults;
   }
 
   pub no_memory : (s : Stop) → s ≡ stop.Memory → Acts q stood a b (Err s)
@@ -107,14 +120,14 @@ module _ (q : Request) (stood : Bool) (a b : Disk) (reads : ReadsOnly a b) where
   none_written : edits_file q.command ≡ false → (o : List ℕ) → run_bytes q o ≡ 0
   none_written edits_not o = ap (λ (t : Bool). cond t (edit_bytes o q.edit) 0) edits_not
 
-  pub looks : (f : Finished) → edits_file q.command ≡ false → IsLawful b → IsSettled a → Fixes q.command f.summary
+  pub looks : (f : Finished) → edits_file q.command ≡ false → IsSettled a → Fixes q.command f.summary
       → ((o : List ℕ) → Holds a o → IsBytes o → Accepts q o × HasTold q o stood f) → Acts q stood a b (Ok f)
   unfolding same_file none_written
-  looks f edits_not lawful settled fixes told = record {
+  looks f edits_not settled fixes told = record {
     acts = λ o held bytes. record {
       run = record {
         accepts = (told o held bytes).0;
-        alone = subst (λ (file : List ℕ). StandsAlone file b) (held.bytes ∙ sym (same_file edits_not o)) (alone_on (bytes_of a.slots.main) a b reads settled.alone);
+        stands = subst (λ (file : List ℕ). Stands file b) (held.bytes ∙ sym (same_file edits_not o)) (stands_on (bytes_of a.slots.main) a b reads settled.stands);
         no_work = reads.work ∙ settled.no_work held.tells;
         edited = λ edits. absurd (not_true (sym edits_not ∙ edits));
         written = let w = reads.written in let none = none_written edits_not o in omega (arith, w, none);
@@ -124,15 +137,17 @@ module _ (q : Request) (stood : Bool) (a b : Disk) (reads : ReadsOnly a b) where
     fixes = fixes;
     stops = tt;
     leaves = tt;
-    crash = Leaves-reads (MayLeave q a) a b reads;
-    again = alone_only (bytes_of a.slots.main) b lawful (alone_on (bytes_of a.slots.main) a b reads settled.alone);
+    crash = λ one. Leaves-reads (MayLeave q a) a b reads;
+    again = λ one. one_read a b one reads;
+    tells = reads.tells;
+    later = reads.faults;
   }
 
 -- a recovery that was all that was asked for
-pub recovery_acts : (q : Request) (redone : Bool) (d : Disk) (f : Finished) → q.command ≡ command.Recover → IsLawful d → IsSettled d → f.summary ≡ no_edit
+pub recovery_acts : (q : Request) (redone : Bool) (d : Disk) (f : Finished) → q.command ≡ command.Recover → IsSettled d → f.summary ≡ no_edit
     → f.text ≡ recovered_line redone → Acts q redone d d (Ok f)
-recovery_acts q redone d f is lawful settled summary text =
-    looks q redone d d (ReadsOnly-refl d) f (ap edits_file is) lawful settled (subst (λ (c : Command). Fixes c f.summary) (sym is) summary)
+recovery_acts q redone d f is settled summary text =
+    looks q redone d d (ReadsOnly-refl d) f (ap edits_file is) settled (subst (λ (c : Command). Fixes c f.summary) (sym is) summary)
     (λ o held bytes. (
       subst (λ (c : Command). AcceptsBy c q.rules q.edit o) (sym is) tt,
       record {

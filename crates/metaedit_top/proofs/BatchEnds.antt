@@ -13,7 +13,7 @@ use Rattle.metaedit_top.specs.declared.batch_end.FileEnd.{FileEnd}
 use Rattle.metaedit_top.specs.declared.batch_end.FileEnd.TheVariants as end
 use Rattle.metaedit_top.specs.declared.batch_text.FileTexts.{FileTexts}
 use Rattle.metaedit_top.specs.declared.outcome.UsageFault.{UsageFault}
-use Rattle.metaedit_top.specs.Batch.{AllOne, EachEnds, OfBatch, SomeGoOn, StartsBatch, end_behind}
+use Rattle.metaedit_top.specs.Batch.{EachEnds, OfBatch, SomeGoOn, StartsBatch, end_behind}
 use Rattle.metaedit_top.specs.BatchText.{AreTextsOf, batch_text, done_count, fault_count, last_line, texts_lines}
 use Rattle.metaedit_top.specs.BatchWords.{BatchParts, batch_files, batch_parts, counted, fault_in, files_in, same_from}
 use Rattle.metaedit_top.specs.Words.{Text, item}
@@ -51,7 +51,7 @@ module _ {D : Type 0} (disk : D → Disk) (ms : List Member) (ds : List D) (es f
   pub rest_more : (j : ℕ) (x : FileEnd) → i + 1 ≤ j → get_or (set es i v) j x ≡ get_or first j x
   rest_more j x high = get_or-set_other es i j v x (λ here. absurd (omega (arith, here, high))) ∙ rest j x (omega (arith, high))
 
-module _ {D : Type 0} (disk : D → Disk) (lawful : (d : D) → IsLawful (disk d)) (words : List Text) (rounds : Option ℕ) (before mid : List D) (one : AllOne disk before)
+module _ {D : Type 0} (disk : D → Disk) (lawful : (d : D) → IsLawful (disk d)) (words : List Text) (rounds : Option ℕ) (before mid : List D)
     (n : ℕ) (form : batch_files words ≡ Ok n) (count : length before ≡ n) (s : Started) (o : OfBatch words (λ p. StartsBatch disk p before mid s)) where
   here : length before ≡ length o.parts.files
   here = count ∙ sym (files_counted words o.parts n form o.is)
@@ -83,7 +83,7 @@ module _ {D : Type 0} (disk : D → Disk) (lawful : (d : D) → IsLawful (disk d
     pub all_end : some_open ms ≡ false → EachEnds disk o.parts rounds before after told
     unfolding here by_swaps
     all_end shut =
-        each_ends disk lawful words o.parts o.is o.holds.edit o.holds.is rounds before mid after here one s.ends.items o.holds.swaps o.holds.begun ms by_swaps told size behind shut
+        each_ends disk lawful words o.parts o.is o.holds.edit o.holds.is rounds before mid after here s.ends.items o.holds.swaps o.holds.begun ms by_swaps told size behind shut
 
     -- some file goes on
     pub some_left : (left : List (Option FileEnd)) → length left ≡ length s.left.items
@@ -94,7 +94,7 @@ module _ {D : Type 0} (disk : D → Disk) (lawful : (d : D) → IsLawful (disk d
       parts = o.parts;
       is = o.is;
       holds =
-          some_go_on disk lawful words o.parts o.is o.holds.edit o.holds.is rounds before mid after here one s.ends.items o.holds.swaps o.holds.begun ms by_swaps told size behind
+          some_go_on disk lawful words o.parts o.is o.holds.edit o.holds.is rounds before mid after here s.ends.items o.holds.swaps o.holds.begun ms by_swaps told size behind
           left (wide ∙ o.holds.left) is some;
     }
 

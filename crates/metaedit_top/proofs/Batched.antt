@@ -3,20 +3,20 @@ use Rattle.std.proofs.Common.{◌≡◌, ℕ, ◌+◌, ◌≤◌, ◌<◌, min, 
 use Rattle.std.specs.Prelude.{IsTrue, IsSome, IfOk, IfErr, IfSome, ◌⊎◌, if◌then◌else◌, is_some}
 use Rattle.me_bytes.specs.Bytes.{IsBytes}
 use Rattle.me_disk.specs.Causes.{Rose}
-use Rattle.me_disk.specs.Disk.{Disk, Image, IsLawful, Leaves, Only, bytes_of, read_as}
+use Rattle.me_disk.specs.Disk.{Disk, Image, IsLawful, Leaves, Only, bytes_of, plain, read_as}
 use Rattle.me_disk.specs.Holds.{Holds}
 use Rattle.me_disk.specs.Steps.{ReadsOnly}
 use Rattle.me_disk.proofs.Runs.{Leaves-reads, Leaves-trans, rose_sooner}
-use Rattle.edit_journal.specs.Settled.{IsDamaged, Settles, StandsAlone}
+use Rattle.edit_journal.specs.Settled.{IsDamaged, Settles, Stands}
 use Rattle.part_tree.specs.declared.field.EditItem.{EditItem}
 use Rattle.part_tree.specs.declared.plan.Plan.{Plan}
 use Rattle.part_tree.specs.declared.plan.Plan.TheVariants.{InPlace}
 use Rattle.part_tree.specs.Plans.{Belongs, CanRun, applied}
-use Rattle.file_swap.specs.Midway.{Midway, SettlesEither}
+use Rattle.file_swap.specs.Midway.{Midway, Phase, SettlesEither}
 use Rattle.file_swap.specs.Steps.{bytes_by, bytes_written, calls}
-use Rattle.file_swap.specs.Swap.{Swapping, Underway, fresh}
-use Rattle.file_swap.proofs.Ends.{run_alone, run_work}
-use Rattle.file_swap.proofs.Installs.{all_written}
+use Rattle.file_swap.specs.Swap.{IsSure, Swapping, Underway, fresh}
+use Rattle.file_swap.proofs.Ends.{run_only, run_stands, run_work}
+use Rattle.file_swap.proofs.Installs.{all_written, begins_sure}
 use Rattle.recovery.specs.Recovered.{Recovers, RecoverWrites, OnRecoverDamage, IsBroken, IsRefusal, bytes_to_redo}
 use Rattle.recovery.specs.Redo.{SettlesAlike}
 use Rattle.recovery.specs.declared.whole.RecoverFault.{RecoverFault}
@@ -37,19 +37,18 @@ use Rattle.metaedit_top.specs.declared.outcome.Stop.TheVariants as stop
 use Rattle.metaedit_top.specs.declared.words.Command.TheVariants as command
 use Rattle.metaedit_top.specs.declared.words.Request.{Request}
 use Rattle.metaedit_top.specs.Asked.{changes, run_bytes}
-use Rattle.metaedit_top.specs.Batch.{Begun, EndsAs, EndsFile, EndsWithin, FindsNothing, FinishesFile, GoesOn, IsOneEnd, IsReadied, KeepsFile, NeedsCalls, Readies, StaysOld, end_behind, end_in, swap_in, file_request}
+use Rattle.metaedit_top.specs.Batch.{Begun, EndsAs, EndsFile, EndsWithin, FindsNothing, FinishesFile, GoesOn, IsMidway, IsOneEnd, IsReadied, KeepsFile, NeedsCalls, Readies, StaysOld, end_behind, end_in, swap_in, file_request}
 use Rattle.metaedit_top.specs.BatchText.{end_of}
 use Rattle.metaedit_top.specs.Changed.{IsFresh, IsPrepared, MakesEdit, OnSwap, PrepareStops, Prepares}
 use Rattle.metaedit_top.specs.Answered.{AcceptsWords, Because, DoneWith, MayStandOf}
 use Rattle.metaedit_top.specs.Begun.{StandsBy}
 use Rattle.metaedit_top.specs.Tables.{Asks}
-use Rattle.metaedit_top.specs.Run.{AreBytes, HasRun, HasSettled, IsEither, LeavesAt, OnFile, StandsNew, Stops}
+use Rattle.metaedit_top.specs.Run.{AreBytes, HasRun, HasSettled, IsEither, IsOneStop, LeavesAt, OnFile, OneImage, StandsNew, Stops}
 use Rattle.metaedit_top.specs.Stage.{stop_of_recovery}
 use Rattle.metaedit_top.specs.Told.{summary}
 use Rattle.metaedit_top.specs.Words.{Text, request}
-use Rattle.metaedit_top.proofs.Acted.{alone_on, alone_only}
+use Rattle.metaedit_top.proofs.Acted.{one_plain, only_plain}
 use Rattle.metaedit_top.proofs.Prepared.{either_made, has_plan, plan_bytes, run_idle, run_made}
-use Rattle.metaedit_top.proofs.Ran.{one_read}
 use Rattle.metaedit_top.proofs.Sets.{by_edit, none_written, summary_of}
 use Rattle.metaedit_top.proofs.Tops.{never}
 
@@ -68,24 +67,24 @@ alike_by words a i alike = λ tells f settles bytes. inl (alike f settles)
 -- ---- by the swap that was made ready
 
 module _ (words : List Text) (e : List EditItem) (file : Text) (is : request words ≡ Ok (file_request e file)) (a b : Disk) (p : Prepared) (readied : IsReadied (file_request e file) a b p)
-    (stays : StaysOld a b) (since : (i : Image) → b.since a.clock i → SettlesAlike (read_as a.slots) i) where
+    (stays : StaysOld a b) (since : OneImage a → (i : Image) → b.since a.clock i → SettlesAlike (read_as a.slots) i) (again : OneImage a → OneImage b) (lawful_b : IsLawful b) where
   tells_on : IsTrue a.tells → IsTrue b.tells
-  tells_on tells = subst IsTrue (sym stays.crash.tells) tells
+  tells_on tells = subst IsTrue (sym stays.tells) tells
 
   on_file : (P : List ℕ → Type 0) → (IsTrue a.tells → P (bytes_of b.slots.main)) → OnFile a P
   on_file P holds = λ tells. (bytes_of b.slots.main, readied.settled.settles tells, holds tells)
 
   keeps_old : KeepsFile words a b
   keeps_old = record {
-    any_moment = λ i h. alike_by words a i (since i h);
+    any_moment = λ one i h. alike_by words a i (since one i h);
     damaged = stays.damaged;
-    tells = stays.crash.tells;
+    tells = stays.tells;
   }
 
   -- no item has an effect
-  pub ends_idle : (rounds : Option ℕ) → p.swap ≡ None → IsLawful b → p.finished.summary.findings ≡ 0 → EndsFile words rounds a b (end.Done p.finished.summary)
+  pub ends_idle : (rounds : Option ℕ) → p.swap ≡ None → p.finished.summary.findings ≡ 0 → EndsFile words rounds a b (end.Done p.finished.summary)
   unfolding keeps_old on_file
-  ends_idle rounds none lawful findings = record {
+  ends_idle rounds none findings = record {
     ends = record {
       asked = (file_request e file);
       is = set_asks words e file is;
@@ -93,12 +92,12 @@ module _ (words : List Text) (e : List EditItem) (file : Text) (is : request wor
           (λ tells bytes.
           let o = bytes_of b.slots.main in
           let ready = readied.ready tells bytes in (
-            run_idle (file_request e file) refl (by_edit (file_request e file) refl) o p ready bytes none (bytes_to_redo (read_as a.slots)) a b readied.settled.alone (readied.settled.no_work tells) (readied.settled.written tells),
+            run_idle (file_request e file) refl (by_edit (file_request e file) refl) o p ready bytes none (bytes_to_redo (read_as a.slots)) a b readied.settled.stands (readied.settled.no_work tells) (readied.settled.written tells),
             summary_of (file_request e file) refl o p.finished.summary ready.summary_is,
           ));
     };
     finds = findings;
-    again = alone_only (bytes_of b.slots.main) b lawful readied.settled.alone;
+    again = again;
     keeps = keeps_old;
     within = within rounds;
     complete = λ all quiet. tt;
@@ -142,12 +141,16 @@ module _ (words : List Text) (e : List EditItem) (file : Text) (is : request wor
             let there : IsEither (file_request e file) x i = subst (λ (y : List ℕ). IsEither (file_request e file) y i) same made in
             ⊎_elim (λ old. inl old) (λ new. inr (file_request e file, set_asks words e file is, new)) there
 
+    -- before the first call each image is one before it
+    sure : OneImage a → IsSure s (bytes_of b.slots.main) b
+    sure one = subst (λ (t : Swapping). IsSure t (bytes_of b.slots.main) b) (sym fresh_s.unmade) (begins_sure b s.plan (bytes_of b.slots.main) (only_plain (bytes_of b.slots.main) b lawful_b readied.settled.stands (again one)))
+
     keeps_run : KeepsFile words a c
-    unfolding may_by
+    unfolding may_by sure
     keeps_run = record {
-      any_moment = λ i h. ⊎_elim (λ before. alike_by words a i (since i before)) (λ either. may_by i either) (ran.crash.each a.clock i stays.crash.clock h);
+      any_moment = λ one i h. ⊎_elim (λ before. alike_by words a i (since one i before)) (λ either. may_by i either) ((ran.crash (sure one)).each a.clock i (stays.crash one).clock h);
       damaged = λ tells damaged. absurd (damaged (Some (bytes_of b.slots.main)) (readied.settled.settles tells));
-      tells = ran.crash.tells ∙ stays.crash.tells;
+      tells = ran.tells ∙ stays.tells;
     }
 
     none_so_far : bytes_by s.plan s.made ≡ 0
@@ -157,7 +160,7 @@ module _ (words : List Text) (e : List EditItem) (file : Text) (is : request wor
     pub ends_failed : (rounds : Option ℕ) → Stopped s ran.next m b c → EndsFile words rounds a c (end.DepotFault c.faults)
     unfolding keeps_run on_file none_so_far
     ends_failed rounds stopped =
-        let rose : Rose a.faults c.faults = rose_sooner a.faults b.faults c.faults stays.crash.faults stopped.rose in
+        let rose : Rose a.faults c.faults = rose_sooner a.faults b.faults c.faults stays.later stopped.rose in
         record {
           ends = (
             refl,
@@ -177,7 +180,7 @@ module _ (words : List Text) (e : List EditItem) (file : Text) (is : request wor
             },
           );
           finds = tt;
-          again = tt;
+          again = λ one. tt;
           keeps = keeps_run;
           within = within rounds;
           complete = λ all quiet. absurd (quiet rose);
@@ -200,6 +203,11 @@ module _ (words : List Text) (e : List EditItem) (file : Text) (is : request wor
       unfolding plan_is
       belongs_on tells = subst (λ (pl : Plan). Belongs pl (bytes_of b.slots.main)) plan_is (goes.underway.belongs tells)
 
+      -- each image is one after the calls made so far
+      phase_on : OneImage a → (i : Image) → c.images i → Phase s.plan (bytes_of b.slots.main) ran.next.made i
+      unfolding plan_is sure
+      phase_on one i h = subst (λ (pl : Plan). Phase pl (bytes_of b.slots.main) ran.next.made i) plan_is (goes.sure (sure one) i h)
+
       made_few : ran.next.made ≡ min n (calls s.plan)
       made_few = let none : s.made ≡ 0 = ap (λ (x : Swapping). x.made) fresh_s.unmade in let counts = goes.made in omega arith
 
@@ -214,11 +222,11 @@ module _ (words : List Text) (e : List EditItem) (file : Text) (is : request wor
       }
 
       pub ends_done : (rounds : Option ℕ) → IfSome rounds (λ r. n ≤ r) → ran.next.made ≡ calls s.plan → p.finished.summary.findings ≡ 0 → EndsFile words rounds a c (end.Done p.finished.summary)
-      unfolding keeps_run on_file none_so_far mid belongs_on made_few needs_by tells_on
+      unfolding keeps_run on_file none_so_far mid belongs_on phase_on made_few needs_by tells_on
       ends_done rounds few all findings =
           let o = bytes_of b.slots.main in
           let at_end : Midway s.plan o (calls s.plan) c = subst (λ (k : ℕ). Midway s.plan o k c) all mid in
-          let alone : StandsAlone (applied s.plan o) c = run_alone s.plan o c lawful fresh_s.can belongs_on at_end in
+          let stands : Stands (applied s.plan o) c = run_stands s.plan o c fresh_s.can belongs_on at_end in
           record {
             ends = record {
               asked = (file_request e file);
@@ -226,8 +234,8 @@ module _ (words : List Text) (e : List EditItem) (file : Text) (is : request wor
               done = on_file (λ o. IsBytes o → HasRun (file_request e file) o (bytes_to_redo (read_as a.slots)) a c × (p.finished.summary ≡ summary (file_request e file) o))
                   (λ tells bytes.
                   let ready = readied.ready tells bytes in (
-                    run_made (file_request e file) refl (by_edit (file_request e file) refl) o p ready bytes s some (bytes_to_redo (read_as a.slots)) a c alone
-                        (run_work s.plan o c lawful fresh_s.can belongs_on at_end (subst IsTrue (sym ran.crash.tells) (tells_on tells)))
+                    run_made (file_request e file) refl (by_edit (file_request e file) refl) o p ready bytes s some (bytes_to_redo (read_as a.slots)) a c stands
+                        (run_work s.plan o c fresh_s.can belongs_on at_end (subst IsTrue (sym ran.tells) (tells_on tells)))
                         (let w = goes.written in let none = none_so_far in let before = readied.settled.written tells in
                         let full : bytes_by s.plan ran.next.made ≡ bytes_written s.plan = ap (bytes_by s.plan) all ∙ all_written s.plan fresh_s.can in
                         omega (arith, w, none, before, full)),
@@ -235,7 +243,7 @@ module _ (words : List Text) (e : List EditItem) (file : Text) (is : request wor
                   ));
             };
             finds = findings;
-            again = alone_only (applied s.plan o) c lawful alone;
+            again = λ one. one_plain (applied s.plan o) c lawful stands (run_only s.plan o c lawful belongs_on (λ i h. subst (λ (k : ℕ). Phase s.plan o k i) all (phase_on one i h)));
             keeps = keeps_run;
             within = within rounds few;
             complete = λ all quiet. tt;
@@ -247,24 +255,31 @@ module _ (words : List Text) (e : List EditItem) (file : Text) (is : request wor
 
       -- calls are left
       pub goes_on : ran.next.made < calls s.plan → GoesOn words n a c
-      unfolding keeps_run mid made_few needs_by
+      unfolding keeps_run mid phase_on made_few needs_by
       goes_on left =
           let counts = made_few in
           let so : ran.next.made ≡ n = omega arith in
           record {
-            midway = needs_by (λ pl k o. Midway pl o n c × (n < k)) (subst (λ (k : ℕ). Midway s.plan (bytes_of b.slots.main) k c) so mid, omega arith);
+            midway =
+                needs_by (λ pl k o. IsMidway pl o n a c × (n < k)) (
+                  record {
+                    made = subst (λ (k : ℕ). Midway s.plan (bytes_of b.slots.main) k c) so mid;
+                    images = λ one i h. subst (λ (k : ℕ). Phase s.plan (bytes_of b.slots.main) k i) so (phase_on one i h);
+                  },
+                  omega arith,
+                );
             keeps = keeps_run;
           }
 
 -- ---- an edit that isn't ready
 
-module _ (words : List Text) (e : List EditItem) (file : Text) (is : request words ≡ Ok (file_request e file)) (a b : Disk) (one : Only (read_as a.slots) a) (lawful : IsLawful b) (rounds : Option ℕ)
-    (stays : StaysOld a b) (since : (i : Image) → b.since a.clock i → SettlesAlike (read_as a.slots) i) where
+module _ (words : List Text) (e : List EditItem) (file : Text) (is : request words ≡ Ok (file_request e file)) (a b : Disk) (rounds : Option ℕ)
+    (stays : StaysOld a b) (since : OneImage a → (i : Image) → b.since a.clock i → SettlesAlike (read_as a.slots) i) where
   keeps_it : KeepsFile words a b
   keeps_it = record {
-    any_moment = λ i h. alike_by words a i (since i h);
+    any_moment = λ one i h. alike_by words a i (since one i h);
     damaged = stays.damaged;
-    tells = stays.crash.tells;
+    tells = stays.tells;
   }
 
   is_memory : (s : Stop) → Stops (file_request e file) a b s → AcceptsWords words None a → (Rose a.faults b.faults → ⊥) → FinishesFile (end_of s b.faults)
@@ -287,19 +302,15 @@ module _ (words : List Text) (e : List EditItem) (file : Text) (is : request wor
   ends_as (stop.TooLarge size limit) h leaves = because_so words e file is a b (stop.TooLarge size limit) h leaves
   ends_as stop.Memory h leaves = because_so words e file is a b stop.Memory h leaves
 
-  settled_one : HasSettled a b → Only (read_as b.slots) b
-  settled_one settled = alone_only (bytes_of b.slots.main) b lawful settled.alone
-
-  one_again : (s : Stop) → Stops (file_request e file) a b s → LeavesAt (file_request e file) a b s → IsOneEnd (end_of s b.faults) b
-  unfolding settled_one
-  one_again stop.Depot h leaves = tt
-  one_again stop.NoFile h leaves = one_read a b one leaves
-  one_again stop.FileThere h leaves = absurd h
-  one_again (stop.Damaged at) h leaves = one_read a b one leaves
-  one_again (stop.NotSupported w) h leaves = settled_one leaves
-  one_again (stop.RuleBroken w) h leaves = settled_one leaves
-  one_again (stop.TooLarge size limit) h leaves = settled_one leaves
-  one_again stop.Memory h leaves = settled_one leaves
+  one_end : (s : Stop) → IsOneStop s b → IsOneEnd (end_of s b.faults) b
+  one_end stop.Depot one = tt
+  one_end stop.NoFile one = one
+  one_end stop.FileThere one = one
+  one_end (stop.Damaged at) one = one
+  one_end (stop.NotSupported w) one = one
+  one_end (stop.RuleBroken w) one = one
+  one_end (stop.TooLarge size limit) one = one
+  one_end stop.Memory one = one
 
   finds_none : (s : Stop) → FindsNothing (end_of s b.faults)
   finds_none stop.Depot = tt
@@ -322,12 +333,12 @@ module _ (words : List Text) (e : List EditItem) (file : Text) (is : request wor
   in_time (Some r) (stop.TooLarge size limit) = tt
   in_time (Some r) stop.Memory = tt
 
-  pub ends_stopped : (s : Stop) → Stops (file_request e file) a b s → LeavesAt (file_request e file) a b s → EndsFile words rounds a b (end_of s b.faults)
-  unfolding keeps_it is_memory ends_as one_again finds_none in_time
-  ends_stopped s h leaves = record {
+  pub ends_stopped : (s : Stop) → Stops (file_request e file) a b s → LeavesAt (file_request e file) a b s → (OneImage a → IsOneStop s b) → EndsFile words rounds a b (end_of s b.faults)
+  unfolding keeps_it is_memory ends_as one_end finds_none in_time
+  ends_stopped s h leaves again = record {
     ends = ends_as s h leaves;
     finds = finds_none s;
-    again = one_again s h leaves;
+    again = λ one. one_end s (again one);
     keeps = keeps_it;
     within = in_time rounds s;
     complete = is_memory s h;

@@ -2,7 +2,7 @@
 use Rattle.std.proofs.Common.{◌≡◌, ℕ, zero, suc, ◌+◌, ◌≤◌, ◌<◌, List, [], ◌∷◌, length, get_or, map, Bool, true, false, Option, Some, None, Result, Ok, Err, refl, sym, ap, ◌∙◌, subst, arith, ⊎_elim}
 use Rattle.std.specs.Prelude.{IfSome, if◌then◌else◌, is_some}
 use Rattle.std.proofs.lemmas.Bool.{cases_eq}
-use Rattle.me_disk.specs.Disk.{Disk, IsLawful, Only, bytes_of, read_as}
+use Rattle.me_disk.specs.Disk.{Disk, IsLawful, bytes_of}
 use Rattle.part_tree.specs.declared.field.EditItem.{EditItem}
 use Rattle.file_swap.specs.Steps.{calls}
 use Rattle.file_swap.specs.Swap.{Swapping}
@@ -27,7 +27,7 @@ pub record Left (words : List Text) (rounds : Option ℕ) (made : ℕ) (old new 
   pub on : is_open m ≡ true → GoesOn words made old new
 
 module _ (words : List Text) (e : List EditItem) (file : Text) (is : request words ≡ Ok (file_request e file)) (rounds : Option ℕ) (made : ℕ) (few : IfSome rounds (λ r. made ≤ r))
-    {D : Type 0} (disk : D → Disk) (a : Disk) (one : Only (read_as a.slots) a) (d d' : D) (lawful : IsLawful (disk d)) (lawful' : IsLawful (disk d')) (m' : Member) where
+    {D : Type 0} (disk : D → Disk) (a : Disk) (d d' : D) (lawful : IsLawful (disk d)) (lawful' : IsLawful (disk d')) (m' : Member) where
   -- a file without a swap is as it was made ready
   still : (x : FileEnd) → EndsFile words rounds a (disk d) x → m' ≡ fresh_member None → d' ≡ d → Left words rounds made a (disk d') m' x
   still x ends same_m same_d =
@@ -45,9 +45,9 @@ module _ (words : List Text) (e : List EditItem) (file : Text) (is : request wor
       record {
         ended = λ shut.
             subst (EndsFile words rounds a (disk d')) (sym (ap (λ (t : Bool). if t then end.DepotFault (disk d').faults else end.Done p.finished.summary) unfailed))
-            (ends_done words e file is a (disk d) p readied.ready readied.stays readied.since s some fresh made m' (disk d') lawful' ran goes rounds few (goes.ended.0 (shut_ended s m' ran.next ran.swap shut)) readied.ready.told.no_findings);
+            (ends_done words e file is a (disk d) p readied.ready readied.stays readied.since readied.again_done lawful s some fresh made m' (disk d') lawful' ran goes rounds few (goes.ended.0 (shut_ended s m' ran.next ran.swap shut)) readied.ready.told.no_findings);
         on = λ more.
-            goes_on words e file is a (disk d) p readied.ready readied.stays readied.since s some fresh made m' (disk d') lawful' ran goes
+            goes_on words e file is a (disk d) p readied.ready readied.stays readied.since readied.again_done lawful s some fresh made m' (disk d') lawful' ran goes
             (left_some goes (open_unended m' more));
       })
       (λ (stopped : Stopped s ran.next m' (disk d) (disk d')).
@@ -55,7 +55,7 @@ module _ (words : List Text) (e : List EditItem) (file : Text) (is : request wor
       record {
         ended = λ shut.
             subst (EndsFile words rounds a (disk d')) (sym (ap (λ (t : Bool). if t then end.DepotFault (disk d').faults else end.Done p.finished.summary) failed))
-            (ends_failed words e file is a (disk d) p readied.ready readied.stays readied.since s some fresh made m' (disk d') lawful' ran rounds stopped);
+            (ends_failed words e file is a (disk d) p readied.ready readied.stays readied.since readied.again_done lawful s some fresh made m' (disk d') lawful' ran rounds stopped);
         on = λ more. absurd (open_unended m' more stopped.ended);
       }) ran.state
     where
@@ -78,7 +78,7 @@ module _ (words : List Text) (e : List EditItem) (file : Text) (is : request wor
       → Left words rounds made a (disk d') m' (end.Done p.finished.summary)
   unfolding still turned
   by_swap p readied None none fresh ran =
-      still (end.Done p.finished.summary) (ends_idle words e file is a (disk d) p readied.ready readied.stays readied.since rounds none lawful readied.ready.told.no_findings) ran.0 ran.1
+      still (end.Done p.finished.summary) (ends_idle words e file is a (disk d) p readied.ready readied.stays readied.since readied.again_done lawful rounds none readied.ready.told.no_findings) ran.0 ran.1
   by_swap p readied (Some s) some fresh ran = turned s p some fresh readied ran.1
 
   by_answer : (r : Result Prepared Stop) → Readies (file_request e file) a (disk d) r → RanBy disk (swap_in r) made (fresh_member (swap_in r)) m' (bytes_of (disk d).slots.main) d d'
@@ -86,7 +86,7 @@ module _ (words : List Text) (e : List EditItem) (file : Text) (is : request wor
   unfolding still by_swap
   by_answer (Ok p) readied ran = by_swap p readied p.swap refl readied.ready.fresh ran
   by_answer (Err s) readied ran =
-      still (end_of s (disk d).faults) (ends_stopped words e file is a (disk d) one lawful rounds readied.stays readied.since s readied.stops readied.leaves) ran.0 ran.1
+      still (end_of s (disk d).faults) (ends_stopped words e file is a (disk d) rounds readied.stays readied.since s readied.stops readied.leaves readied.again) ran.0 ran.1
 
   -- one file of a batch
   pub left_of : (y : FileEnd) (swap : Option Swapping) → Begun (file_request e file) a (disk d) y swap → RanBy disk swap made (fresh_member swap) m' (bytes_of (disk d).slots.main) d d' → Left words rounds made a (disk d') m' y

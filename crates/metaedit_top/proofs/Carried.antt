@@ -44,11 +44,12 @@ module _ (q : Request) (there : makes_file q.command ≡ false) (a b : Disk) whe
     fixes = runs.fixes;
     stops = tt;
     leaves = tt;
-    crash = λ i h tells f settles bytes. ⊎_elim (λ old. inl old) (λ new. inr (subst (λ (t : Bool). StandsIn t q f i) (sym there) new)) (runs.crash i h tells f settles bytes);
+    crash = λ one i h tells f settles bytes.
+        ⊎_elim (λ old. inl old) (λ new. inr (subst (λ (t : Bool). StandsIn t q f i) (sym there) new)) (runs.crash one i h tells f settles bytes);
     damaged = runs.damaged;
     there = λ makes. absurd (not_true (sym there ∙ makes));
     again_done = runs.again_done;
-    again = tt;
+    again = λ one. tt;
     tells = runs.tells;
     later = runs.later;
   }
@@ -57,10 +58,11 @@ module _ (q : Request) (there : makes_file q.command ≡ false) (a b : Disk) whe
     fixes = tt;
     stops = subst (λ (t : Bool). StopsIn t q a b s) (sym there) runs.stops;
     leaves = subst (λ (t : Bool). LeavesIn t q a b s) (sym there) runs.leaves;
-    crash = λ i h tells f settles bytes. ⊎_elim (λ old. inl old) (λ new. inr (subst (λ (t : Bool). StandsIn t q f i) (sym there) new)) (runs.crash i h tells f settles bytes);
+    crash = λ one i h tells f settles bytes.
+        ⊎_elim (λ old. inl old) (λ new. inr (subst (λ (t : Bool). StandsIn t q f i) (sym there) new)) (runs.crash one i h tells f settles bytes);
     damaged = runs.damaged;
     there = λ makes. absurd (not_true (sym there ∙ makes));
-    again_done = tt;
+    again_done = λ one. tt;
     again = runs.again;
     tells = runs.tells;
     later = runs.later;
@@ -127,7 +129,7 @@ module _ (q : Request) (makes : makes_file q.command ≡ true) (a b : Disk) wher
     damaged = made.damaged;
     there = λ is. made.there;
     again_done = made.again_done;
-    again = tt;
+    again = λ one. tt;
     tells = made.tells;
     later = made.later;
   }
@@ -142,8 +144,8 @@ module _ (q : Request) (makes : makes_file q.command ≡ true) (a b : Disk) wher
     crash = made.crash;
     damaged = made.damaged;
     there = λ is. made.there;
-    again_done = tt;
-    again = counted_one s made.again;
+    again_done = λ one. tt;
+    again = λ one. counted_one s (made.again one);
     tells = made.tells;
     later = made.later;
   })

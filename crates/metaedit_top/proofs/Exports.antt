@@ -1,6 +1,6 @@
 -- The table of a file's fields.
 use Rattle.std.proofs.Common.{◌≡◌, ℕ, List, Bool, Ok, sym, ap, ◌∙◌, subst}
-use Rattle.me_disk.specs.Disk.{Disk, IsLawful}
+use Rattle.me_disk.specs.Disk.{Disk}
 use Rattle.me_disk.specs.Steps.{ReadsOnly}
 use Rattle.me_report.specs.declared.line.Summary.{Summary}
 use Rattle.edit_planner.specs.declared.plans.FileMap.{FileMap}
@@ -16,11 +16,11 @@ use Rattle.metaedit_top.specs.Tables.{exported, form_of}
 use Rattle.metaedit_top.specs.Told.{Fixes, ReportsBy, look_summary, summary_by}
 use Rattle.metaedit_top.proofs.Acted.{looks}
 
-pub export_acts : (q : Request) (stood : Bool) (a b : Disk) (m : FileMap) → IsRead a m → ReadsOnly a b → IsSettled a → IsLawful b → (f : Finished)
+pub export_acts : (q : Request) (stood : Bool) (a b : Disk) (m : FileMap) → IsRead a m → ReadsOnly a b → IsSettled a → (f : Finished)
     → q.command ≡ command.Export → f.summary ≡ look_summary (told_in m).payload 0 → f.text ≡ exported (form_of q.format) q.file (told_in m).fields
     → Acts q stood a b (Ok f)
-export_acts q stood a b m of reads settled lawful f is summary text =
-    looks q stood a b reads f (ap edits_file is) lawful settled
+export_acts q stood a b m of reads settled f is summary text =
+    looks q stood a b reads f (ap edits_file is) settled
     (subst (λ (c : Command). Fixes c f.summary) (sym is)
     (record { unchanged = ap (λ (s : Summary). s.changed) summary; not_in_place = ap (λ (s : Summary). s.in_place) summary }, ap (λ (s : Summary). s.findings) summary))
     (λ o held bytes.

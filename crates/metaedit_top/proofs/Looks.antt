@@ -3,7 +3,7 @@ use Rattle.std.proofs.Common.{◌≡◌, ℕ, ◌+◌, List, [], length, ◌++�
 use Rattle.std.specs.Prelude.{◌⊎◌, ◌∷◌, IsTrue, IfSome}
 use Rattle.std.proofs.Math.Path.{fun_ext}
 use Rattle.me_bytes.specs.Bytes.{IsBytes}
-use Rattle.me_disk.specs.Disk.{Disk, IsLawful, bytes_of}
+use Rattle.me_disk.specs.Disk.{Disk, bytes_of}
 use Rattle.me_disk.specs.Holds.{Holds, Inside}
 use Rattle.me_disk.specs.Steps.{ReadsOnly}
 use Rattle.part_tree.specs.declared.field.Broken.{Broken}
@@ -81,7 +81,7 @@ shown_is o m text is shown =
           ∙ ap (λ (ts : List Track). show_report o (told_as (k.kind o) (payload o) t.fields (k.entries o) ts (k.essence o))) is.0.tracks;
     }
 
-module _ (q : Request) (stood : Bool) (a b : Disk) (m : FileMap) (of : IsRead a m) (reads : ReadsOnly a b) (settled : IsSettled a) (lawful : IsLawful b) (f : Finished) where
+module _ (q : Request) (stood : Bool) (a b : Disk) (m : FileMap) (of : IsRead a m) (reads : ReadsOnly a b) (settled : IsSettled a) (f : Finished) where
   accepted : (c : Command) → ((o : List ℕ) → why_in o ≡ None → AcceptsBy c q.rules q.edit o) → q.command ≡ c → (o : List ℕ) → Holds a o → AcceptsBy q.command q.rules q.edit o
   accepted c by is o held = subst (λ (d : Command). AcceptsBy d q.rules q.edit o) (sym is) (by o (of.tells o held).supported)
 
@@ -94,7 +94,7 @@ module _ (q : Request) (stood : Bool) (a b : Disk) (m : FileMap) (of : IsRead a 
   pub show_acts : q.command ≡ command.Show → f.summary ≡ look_summary (told_in m).payload 0 → ((o : List ℕ) → Holds a o → f.text ≡ show_report o (told_in m)) → Acts q stood a b (Ok f)
   unfolding accepted told shown_is unedited
   show_acts is summary text =
-      looks q stood a b reads f (ap edits_file is) lawful settled
+      looks q stood a b reads f (ap edits_file is) settled
       (subst (λ (c : Command). Fixes c f.summary) (sym is) (unedited f.summary _ _ summary, ap (λ (s : Summary). s.findings) summary))
       (λ o held bytes. (
         accepted command.Show (λ o h. h) is o held,
@@ -106,7 +106,7 @@ module _ (q : Request) (stood : Bool) (a b : Disk) (m : FileMap) (of : IsRead a 
       → f.text ≡ findings_text (findings (kind_in m) (streams_in m) (fields_in m) [] q.rules) → Acts q stood a b (Ok f)
   unfolding accepted told unedited
   validate_acts is summary text =
-      looks q stood a b reads f (ap edits_file is) lawful settled (subst (λ (c : Command). Fixes c f.summary) (sym is) (unedited f.summary _ _ summary))
+      looks q stood a b reads f (ap edits_file is) settled (subst (λ (c : Command). Fixes c f.summary) (sym is) (unedited f.summary _ _ summary))
       (λ o held bytes.
       let tells = of.tells o held in
       let found = found_is o m q.rules tells in (
@@ -121,7 +121,7 @@ module _ (q : Request) (stood : Bool) (a b : Disk) (m : FileMap) (of : IsRead a 
       → f.summary ≡ look_summary (told_in m).payload (finding_count (fields_in m) d) → f.text ≡ checksum_text (fields_in m) d → Acts q stood a b (Ok f)
   unfolding accepted told unedited
   md5_acts is d computed summary text =
-      looks q stood a b reads f (ap edits_file is) lawful settled (subst (λ (c : Command). Fixes c f.summary) (sym is) (unedited f.summary _ _ summary))
+      looks q stood a b reads f (ap edits_file is) settled (subst (λ (c : Command). Fixes c f.summary) (sym is) (unedited f.summary _ _ summary))
       (λ o held bytes.
       let tells = of.tells o held in
       let fields = same_fields o m tells in

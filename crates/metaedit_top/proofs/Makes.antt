@@ -7,9 +7,10 @@ use Rattle.me_disk.specs.Disk.{Disk, Image, IsLawful, Leaves, Only, bytes_of, pl
 use Rattle.me_disk.specs.Holds.{Holds}
 use Rattle.me_disk.specs.Steps.{OnlyWork, ReadsOnly}
 use Rattle.me_disk.proofs.Runs.{KeepsImages-trans, Leaves-reads, Leaves-trans, Leaves-weaker, Only-keeps, ReadsOnly-refl, rose_sooner, same_image}
-use Rattle.edit_journal.specs.Settled.{IsDamaged, Settles, SettlesAs, StandsAlone}
+use Rattle.edit_journal.specs.Settled.{IsDamaged, Settles, SettlesAs, Stands}
 use Rattle.recovery.specs.Recovered.{bytes_to_redo}
-use Rattle.me_generate.specs.Makes.{IsNoneOr, Makes, Stands}
+use Rattle.me_generate.specs.Makes.{IsNoneOr, Makes}
+use Rattle.me_generate.specs.Makes as made_file
 use Rattle.me_generate.specs.declared.making.MakeFault.{MakeFault}
 use Rattle.me_generate.specs.declared.making.MakeFault.TheVariants as make
 use Rattle.metaedit_top.specs.declared.outcome.Finished.{Finished}
@@ -20,11 +21,11 @@ use Rattle.metaedit_top.specs.declared.words.Command.TheVariants as command
 use Rattle.metaedit_top.specs.declared.words.Request.{Request}
 use Rattle.metaedit_top.specs.Asked.{edits_file, run_bytes}
 use Rattle.metaedit_top.specs.Begun.{Begins, BeginsBy, HasMade, IsClear, IsUnmade, MakeLeaves, MakeStops, MakesFile, MayStandBy, OnBegun, StandsBy, StandsIn, StandsMade, bytes_before, made_of, stop_of_make}
-use Rattle.metaedit_top.specs.Run.{AreBytes, HasRun, HasTold, IsEither, IsOneStop, MayLeave, has_journal}
+use Rattle.metaedit_top.specs.Run.{AreBytes, HasRun, HasTold, IsEither, IsOneStop, MayLeave, OneImage, has_journal}
 use Rattle.metaedit_top.specs.Stage.{ActLeaves, ActStops, Acts, HasActed, IsSettled}
 use Rattle.metaedit_top.specs.Told.{Fixes, front_by, front_of, made_line}
 use Rattle.metaedit_top.specs.Words.{makes_file}
-use Rattle.metaedit_top.proofs.Acted.{alone_on, alone_only}
+use Rattle.metaedit_top.proofs.Acted.{one_plain, one_read, stands_on}
 
 -- nothing stands for no file
 settles_none : (m j : Option (List ℕ)) → m ≡ None → j ≡ None → SettlesAs m j None
@@ -43,21 +44,18 @@ none_there (Some m) x h = absurd cc
 
 -- ---- calls that only read, before anything is made
 
-module _ (q : Request) (a b : Disk) (lawful : IsLawful a) (reads : ReadsOnly a b) (one : Only (read_as a.slots) a) where
+module _ (q : Request) (a b : Disk) (lawful : IsLawful a) (reads : ReadsOnly a b) where
   -- a moment of them is the state at entry
-  at_entry : (i : Image) → b.since a.clock i → i ≡ read_as a.slots
-  at_entry i h = one i (lawful.only_now i (reads.crash.since a.clock i (omega arith) h))
+  at_entry : OneImage a → (i : Image) → b.since a.clock i → i ≡ read_as a.slots
+  at_entry one i h = one i (lawful.only_now i (reads.crash.since a.clock i (omega arith) h))
 
-  pub still : (i : Image) → b.since a.clock i → MayStandBy q a i
+  pub still : OneImage a → (i : Image) → b.since a.clock i → MayStandBy q a i
   unfolding at_entry
-  still i h = λ tells f settles bytes. inl (subst (λ (j : Image). Settles f j) (sym (at_entry i h)) settles)
-
-  pub one_again : Only (read_as b.slots) b
-  one_again = λ i image. one i (reads.crash.images i image) ∙ same_image (read_as a.slots) (read_as b.slots) (sym reads.main) (sym reads.journal)
+  still one i h = λ tells f settles bytes. inl (subst (λ (j : Image). Settles f j) (sym (at_entry one i h)) settles)
 
   -- a file isn't made
   pub not_begun : (s t : Stop) → t ≡ s → MakeStops q a b s → MakeLeaves q a b s → MakesFile q a b (Err t)
-  unfolding still one_again
+  unfolding still
   not_begun s t is stops leaves = subst (λ (u : Stop). MakesFile q a b (Err u)) (sym is) (record {
     ends = tt;
     fixes = tt;
@@ -66,26 +64,26 @@ module _ (q : Request) (a b : Disk) (lawful : IsLawful a) (reads : ReadsOnly a b
     crash = still;
     damaged = λ tells damaged. reads;
     there = λ tells there. reads;
-    again_done = tt;
-    again = one_for s;
+    again_done = λ one. tt;
+    again = λ one. one_for (one_read a b one reads) s;
     tells = reads.tells;
     later = reads.faults;
   })
     where
-      one_for : (u : Stop) → IsOneStop u b
-      one_for stop.Depot = tt
-      one_for stop.NoFile = one_again
-      one_for stop.FileThere = one_again
-      one_for (stop.Damaged at) = one_again
-      one_for (stop.NotSupported w) = one_again
-      one_for (stop.RuleBroken w) = one_again
-      one_for (stop.TooLarge size limit) = one_again
-      one_for stop.Memory = one_again
+      one_for : OneImage b → (u : Stop) → IsOneStop u b
+      one_for one stop.Depot = tt
+      one_for one stop.NoFile = one
+      one_for one stop.FileThere = one
+      one_for one (stop.Damaged at) = one
+      one_for one (stop.NotSupported w) = one
+      one_for one (stop.RuleBroken w) = one
+      one_for one (stop.TooLarge size limit) = one
+      one_for one stop.Memory = one
 
 -- ---- nothing was there
 
-module _ (q : Request) (makes : makes_file q.command ≡ true) (bytes_made : IsBytes (made_of q)) (a b : Disk) (lawful_a : IsLawful a) (lawful_b : IsLawful b) (reads : ReadsOnly a b)
-    (one : Only (read_as a.slots) a) (clear : IsTrue a.tells → IsClear a.slots) where
+module _ (q : Request) (makes : makes_file q.command ≡ true) (bytes_made : IsBytes (made_of q)) (a b : Disk) (lawful_a : IsLawful a) (reads : ReadsOnly a b)
+    (clear : IsTrue a.tells → IsClear a.slots) where
   none_stood : (f : Option (List ℕ)) → IsTrue a.tells → Settles f (read_as a.slots) → f ≡ None
   none_stood f tells settles = is_none a.slots.main a.slots.journal f (clear tells).main (clear tells).journal settles
 
@@ -95,9 +93,9 @@ module _ (q : Request) (makes : makes_file q.command ≡ true) (bytes_made : IsB
   read_as_none : IsTrue a.tells → read_as a.slots ≡ plain None
   read_as_none tells = same_image (read_as a.slots) (plain None) (clear tells).main (clear tells).journal
 
-  only_none : Only (plain None) b
+  only_none : OneImage a → Only (plain None) b
   unfolding read_as_none
-  only_none = λ i image.
+  only_none one = λ i image.
       let before = reads.crash.images i image in
       one i before ∙ read_as_none (lawful_a.told i before)
 
@@ -128,17 +126,14 @@ module _ (q : Request) (makes : makes_file q.command ≡ true) (bytes_made : IsB
     tells_b : IsTrue a.tells → IsTrue b.tells
     tells_b tells = subst IsTrue (sym reads.tells) tells
 
-    making : IsTrue a.tells → Leaves (MayStandBy q a) b c
+    making : OneImage a → IsTrue a.tells → Leaves (MayStandBy q a) b c
     unfolding tells_b none_or only_none
-    making tells = Leaves-weaker (IsNoneOr (made_of q)) (MayStandBy q a) b c none_or (made.leaves (tells_b tells) only_none)
+    making one tells = Leaves-weaker (IsNoneOr (made_of q)) (MayStandBy q a) b c none_or (made.leaves (tells_b tells) (only_none one))
 
-    since_entry : (i : Image) → b.since a.clock i → MayStandBy q a i
-    since_entry i h = still q a b lawful_a reads one i h
-
-    made_moment : (i : Image) → c.since a.clock i → MayStandBy q a i
-    unfolding making since_entry
-    made_moment i h = λ tells f settles bytes.
-        ⊎_elim (λ before. since_entry i before tells f settles bytes) (λ may. may tells f settles bytes) ((making tells).each a.clock i reads.crash.clock h)
+    made_moment : OneImage a → (i : Image) → c.since a.clock i → MayStandBy q a i
+    unfolding making
+    made_moment one i h = λ tells f settles bytes.
+        ⊎_elim (λ before. still q a b lawful_a reads one i before tells f settles bytes) (λ may. may tells f settles bytes) ((making one tells).each a.clock i reads.crash.clock h)
 
     later_c : a.faults ≤ c.faults
     later_c = let x = reads.faults in let y = made.faults in omega (arith, x, y)
@@ -162,9 +157,9 @@ module _ (q : Request) (makes : makes_file q.command ≡ true) (bytes_made : IsB
           written = let most = made.most in let before = reads.written in omega (arith, most, before);
         })
 
-    make_again : (fault : MakeFault) → r ≡ Err fault → IsOneStop (stop_of_make fault) c
-    make_again make.Depot is = tt
-    make_again make.Memory is =
+    make_again : OneImage a → (fault : MakeFault) → r ≡ Err fault → IsOneStop (stop_of_make fault) c
+    make_again one make.Depot is = tt
+    make_again one make.Memory is =
         let only = made.memory is in
         λ i image.
         one i (reads.crash.images i (only.crash.images i image))
@@ -180,15 +175,15 @@ module _ (q : Request) (makes : makes_file q.command ≡ true) (bytes_made : IsB
       crash = made_moment;
       damaged = λ tells damaged. absurd (damaged None (stands_for_none tells));
       there = λ tells there. absurd (absent tells there);
-      again_done = tt;
-      again = make_again fault is;
+      again_done = λ one. tt;
+      again = λ one. make_again one fault is;
       tells = same_tells;
       later = later_c;
     })
 
     -- ---- it stands there
 
-    module _ (stands : Stands (made_of q) b c) (wrote : c.written ≡ b.written + length (made_of q)) where
+    module _ (stands : made_file.Stands (made_of q) b c) (wrote : c.written ≡ b.written + length (made_of q)) where
       main_c : IsTrue a.tells → c.slots.main ≡ Some (made_of q)
       unfolding tells_b
       main_c tells = stands.main (tells_b tells)
@@ -201,35 +196,39 @@ module _ (q : Request) (makes : makes_file q.command ≡ true) (bytes_made : IsB
       unfolding same_tells
       back tells = subst IsTrue same_tells tells
 
-      alone_c : StandsAlone (made_of q) c
-      unfolding main_c back tells_b only_none
-      alone_c = record {
+      stands_c : Stands (made_of q) c
+      unfolding main_c back
+      stands_c = record {
         main = λ tells. main_c (back tells);
         journal = λ tells. stands.journal ∙ reads.journal ∙ (clear (back tells)).journal;
         state = stands.state;
-        only = λ i image. stands.sure (tells_b (back (lawful_c.told i image))) only_none i image;
       }
 
+      -- where there was one image, there is one again
+      one_c : OneImage a → OneImage c
+      unfolding stands_c back tells_b only_none
+      one_c one =
+          one_plain (made_of q) c lawful_c stands_c
+          (λ i image. stands.sure (tells_b (back (lawful_c.told i image))) (only_none one) i image)
+
       pub settled_c : IsSettled c
-      unfolding alone_c main_c back tells_b
+      unfolding stands_c main_c back tells_b
       settled_c = record {
-        alone = record {
-          main = λ tells. alone_c.main tells ∙ ap Some (sym (ap bytes_of (main_c (back tells))));
-          journal = alone_c.journal;
-          state = alone_c.state;
-          only = λ i image.
-              alone_c.only i image ∙ ap (λ (o : List ℕ). plain (Some o)) (sym (ap bytes_of (main_c (back (lawful_c.told i image)))));
+        stands = record {
+          main = λ tells. stands_c.main tells ∙ ap Some (sym (ap bytes_of (main_c (back tells))));
+          journal = stands_c.journal;
+          state = stands_c.state;
         };
         no_work = λ tells. stands.work (tells_b (back tells));
       }
 
       -- ---- and its edit
 
-      module _ (d : Disk) (lawful_d : IsLawful d) where
+      module _ (d : Disk) where
         has_made : ReadsOnly c d → HasMade (made_of q) a d
-        unfolding alone_c tells_b
+        unfolding stands_c tells_b
         has_made kept = record {
-          alone = alone_on (made_of q) c d kept alone_c;
+          stands = stands_on (made_of q) c d kept stands_c;
           no_work = λ tells. kept.work ∙ stands.work (tells_b tells);
           written = let x = kept.written in let y = reads.written in omega (arith, x, wrote, y);
         }
@@ -259,31 +258,26 @@ module _ (q : Request) (makes : makes_file q.command ≡ true) (bytes_made : IsB
         edit_leaves (stop.TooLarge size limit) why h = has_made h
         edit_leaves stop.Memory why h = inr (has_made h)
 
-        one_read : ReadsOnly c d → Only (read_as d.slots) d
-        unfolding alone_c
-        one_read kept = alone_only (made_of q) d lawful_d (alone_on (made_of q) c d kept alone_c)
+        edit_again : OneImage c → (s : Stop) → ActLeaves q c d s → IsOneStop s d
+        edit_again one stop.Depot h = tt
+        edit_again one stop.NoFile h = one_read c d one h
+        edit_again one stop.FileThere h = one_read c d one h
+        edit_again one (stop.Damaged at) h = one_read c d one h
+        edit_again one (stop.NotSupported w) h = one_read c d one h
+        edit_again one (stop.RuleBroken w) h = one_read c d one h
+        edit_again one (stop.TooLarge size limit) h = one_read c d one h
+        edit_again one stop.Memory h = one_read c d one h
 
-        edit_again : (s : Stop) → ActLeaves q c d s → IsOneStop s d
-        unfolding one_read
-        edit_again stop.Depot h = tt
-        edit_again stop.NoFile h = one_read h
-        edit_again stop.FileThere h = one_read h
-        edit_again (stop.Damaged at) h = one_read h
-        edit_again (stop.NotSupported w) h = one_read h
-        edit_again (stop.RuleBroken w) h = one_read h
-        edit_again (stop.TooLarge size limit) h = one_read h
-        edit_again stop.Memory h = one_read h
+        moment : (OneImage c → Leaves (MayLeave q c) c d) → OneImage a → (i : Image) → d.since a.clock i → MayStandBy q a i
+        unfolding made_moment making holds_c made_may none_stood one_c
+        moment act one i h = λ tells f settles bytes.
+            let clocks : a.clock ≤ c.clock = let x = reads.crash.clock in let y = (making one tells).clock in omega (arith, x, y) in
+            ⊎_elim (λ before. made_moment one i before tells f settles bytes)
+            (λ may. inr (made_may i (may (made_of q) (holds_c tells) bytes_made) f (none_stood f tells settles))) ((act (one_c one)).each a.clock i clocks h)
 
-        moment : Leaves (MayLeave q c) c d → (i : Image) → d.since a.clock i → MayStandBy q a i
-        unfolding made_moment making holds_c made_may none_stood
-        moment act i h = λ tells f settles bytes.
-            let clocks : a.clock ≤ c.clock = let x = reads.crash.clock in let y = (making tells).clock in omega (arith, x, y) in
-            ⊎_elim (λ before. made_moment i before tells f settles bytes)
-            (λ may. inr (made_may i (may (made_of q) (holds_c tells) bytes_made) f (none_stood f tells settles))) (act.each a.clock i clocks h)
-
-        after : Leaves (MayLeave q c) c d → a.faults ≤ d.faults
+        after : c.faults ≤ d.faults → a.faults ≤ d.faults
         unfolding later_c
-        after act = let x = later_c in let y = act.faults in omega (arith, x, y)
+        after more = let x = later_c in omega (arith, x, more)
 
         ran : (f : Finished) → (stood : Bool) → stood ≡ false → ((o : List ℕ) → Holds c o → IsBytes o → HasActed q o stood c d f)
             → OnBegun q a (λ o. IsBytes o → HasRun q o (bytes_before q a o) a d × HasTold q o (has_journal a) f)
@@ -297,7 +291,7 @@ module _ (q : Request) (makes : makes_file q.command ≡ true) (bytes_made : IsB
               let journal : has_journal a ≡ false = ap is_some (clear tells).journal in (
                 record {
                   accepts = x.run.accepts;
-                  alone = x.run.alone;
+                  stands = x.run.stands;
                   no_work = x.run.no_work;
                   edited = x.run.edited;
                   written = let w = x.run.written in let y = reads.written in omega (arith, w, wrote, y, before);
@@ -307,7 +301,7 @@ module _ (q : Request) (makes : makes_file q.command ≡ true) (bytes_made : IsB
         )
 
         pub edited : (r : Result Finished Stop) → Acts q false c d r → MakesFile q a d r
-        unfolding ran moment after edit_stops edit_leaves edit_again same_tells later_c absent stands_for_none
+        unfolding ran moment after edit_stops edit_leaves edit_again same_tells later_c absent stands_for_none one_c
         edited (Ok f) acts = record {
           ends = ran f false refl acts.acts;
           fixes = acts.fixes;
@@ -316,10 +310,10 @@ module _ (q : Request) (makes : makes_file q.command ≡ true) (bytes_made : IsB
           crash = moment acts.crash;
           damaged = λ tells damaged. absurd (damaged None (stands_for_none tells));
           there = λ tells there. absurd (absent tells there);
-          again_done = acts.again;
-          again = tt;
-          tells = acts.crash.tells ∙ same_tells;
-          later = after acts.crash;
+          again_done = λ one. acts.again (one_c one);
+          again = λ one. tt;
+          tells = acts.tells ∙ same_tells;
+          later = after acts.later;
         }
         edited (Err s) acts = record {
           ends = tt;
@@ -329,10 +323,10 @@ module _ (q : Request) (makes : makes_file q.command ≡ true) (bytes_made : IsB
           crash = moment acts.crash;
           damaged = λ tells damaged. absurd (damaged None (stands_for_none tells));
           there = λ tells there. absurd (absent tells there);
-          again_done = tt;
-          again = edit_again s acts.leaves;
-          tells = acts.crash.tells ∙ same_tells;
-          later = after acts.crash;
+          again_done = λ one. tt;
+          again = λ one. edit_again (one_c one) s acts.leaves;
+          tells = acts.tells ∙ same_tells;
+          later = after acts.later;
         }
 
 -- ---- a command that makes a file

@@ -1,4 +1,4 @@
--- What is ready for an edit, and what carrying it out comes to for the file that stood alone.
+-- What is ready for an edit, and what carrying it out comes to for the file that stood there.
 use Rattle.std.proofs.Common.{◌≡◌, ℕ, ◌+◌, ◌≤◌, ◌<◌, List, [], ◌∷◌, length, Bool, true, false, not, ◌&&◌, Option, Some, None, Result, Ok, Err, refl, sym, ap, ◌∙◌, subst, arith, cond, inl, inr, ⊎_elim}
 use Rattle.std.specs.Prelude.{IsTrue, IfOk, ◌==◌}
 use Rattle.std.proofs.lemmas.Bool.{eqb-true}
@@ -25,7 +25,7 @@ use Rattle.part_tree.specs.declared.why.ReadFault.{ReadFault}
 use Rattle.part_tree.specs.declared.why.ReadFault.TheVariants as read
 use Rattle.part_tree.specs.Plans.{Belongs, CanRun, applied}
 use Rattle.edit_journal.specs.Journal.{bytes_in_place}
-use Rattle.edit_journal.specs.Settled.{Settles, StandsAlone}
+use Rattle.edit_journal.specs.Settled.{Settles, Stands}
 use Rattle.field_model.specs.Broken.{broken}
 use Rattle.field_model.specs.Fields.{FieldMap}
 use Rattle.field_model.specs.Kind.{Edited, SameEdit}
@@ -353,24 +353,24 @@ module _ (q : Request) (edits : edits_file q.command ≡ true) (by_edit : (o : L
       (law o).edited o q.edit bytes ready.accepts.supported
       (base_fine ((model_in o).kind o) ((model_in o).streams o) (fields_of o) q.edit q.rules ready.accepts.unbroken) ready.accepts.small
 
-  run_by : (redone : ℕ) (a c : Disk) → StandsAlone (new_file o q.edit) c → c.slots.work ≡ None → c.written ≡ a.written + (redone + edit_bytes o q.edit) → HasRun q o redone a c
+  run_by : (redone : ℕ) (a c : Disk) → Stands (new_file o q.edit) c → c.slots.work ≡ None → c.written ≡ a.written + (redone + edit_bytes o q.edit) → HasRun q o redone a c
   unfolding made_is wrote_is edited
-  run_by redone a c alone work written = record {
+  run_by redone a c stands work written = record {
     accepts = by_edit o ready.accepts;
-    alone = subst (λ (file : List ℕ). StandsAlone file c) (sym made_is) alone;
+    stands = subst (λ (file : List ℕ). Stands file c) (sym made_is) stands;
     no_work = work;
     edited = λ is. edited;
     written = let k = wrote_is in omega (arith, written, k);
   }
 
   -- no item has an effect: the file is as it was
-  pub run_idle : p.swap ≡ None → (redone : ℕ) (a c : Disk) → StandsAlone o c → c.slots.work ≡ None → c.written ≡ a.written + redone → HasRun q o redone a c
+  pub run_idle : p.swap ≡ None → (redone : ℕ) (a c : Disk) → Stands o c → c.slots.work ≡ None → c.written ≡ a.written + redone → HasRun q o redone a c
   unfolding run_by
-  run_idle is redone a c alone work written =
+  run_idle is redone a c stands work written =
       let still : changes o q.edit ≡ false = subst (λ (x : Option Swapping). MakesEdit x q.edit o) is ready.makes in
       let idle = (law o).idle o q.edit bytes ready.accepts.supported (no_effect (effective (fields_of o) q.edit) still) in
       let nothing : edit_bytes o q.edit ≡ 0 = ap (λ (t : Bool). cond t (change_bytes o q.edit) 0) still in
-      run_by redone a c (subst (λ (file : List ℕ). StandsAlone file c) (sym idle.0) alone) work (omega (arith, written, nothing))
+      run_by redone a c (subst (λ (file : List ℕ). Stands file c) (sym idle.0) stands) work (omega (arith, written, nothing))
 
   -- the swap's plan is one of the edit
   module _ (s : Swapping) (is : p.swap ≡ Some s) where
@@ -383,11 +383,11 @@ module _ (q : Request) (edits : edits_file q.command ≡ true) (by_edit : (o : L
         bytes_are o q.edit s.plan makes.1.form
         ∙ sym (ap (λ (t : Bool). cond t (change_bytes o q.edit) 0) makes.0) ∙ sym wrote_is
 
-    -- its new file stands alone
-    pub run_made : (redone : ℕ) (a c : Disk) → StandsAlone (applied s.plan o) c → c.slots.work ≡ None → c.written ≡ a.written + (redone + bytes_written s.plan) → HasRun q o redone a c
+    -- its new file stands there
+    pub run_made : (redone : ℕ) (a c : Disk) → Stands (applied s.plan o) c → c.slots.work ≡ None → c.written ≡ a.written + (redone + bytes_written s.plan) → HasRun q o redone a c
     unfolding run_by makes plan_bytes wrote_is
-    run_made redone a c alone work written =
-        run_by redone a c (subst (λ (file : List ℕ). StandsAlone file c) makes.1.makes alone) work
+    run_made redone a c stands work written =
+        run_by redone a c (subst (λ (file : List ℕ). Stands file c) makes.1.makes stands) work
         (let n = plan_bytes in let k = wrote_is in omega (arith, written, n, k))
 
     -- what a crash may leave of it

@@ -1,7 +1,7 @@
 -- All files of a batch: before its rounds, and behind them.
 use Rattle.std.proofs.Common.{◌≡◌, ℕ, zero, suc, ◌+◌, ◌≤◌, ◌<◌, List, [], ◌∷◌, length, map, get_or, Bool, true, false, Option, Some, None, Result, Ok, Err, refl, sym, ap, ◌∙◌, subst, arith, ⊎_elim}
 use Rattle.std.specs.Prelude.{IsTrue, IfSome, ◌||◌, if◌then◌else◌}
-use Rattle.me_disk.specs.Disk.{Disk, IsLawful, Only, bytes_of, read_as}
+use Rattle.me_disk.specs.Disk.{Disk, IsLawful, bytes_of}
 use Rattle.part_tree.specs.declared.field.EditItem.{EditItem}
 use Rattle.part_tree.specs.Plans.{Belongs}
 use Rattle.file_swap.specs.Swap.{Swapping, Underway, fresh}
@@ -15,7 +15,7 @@ use Rattle.metaedit_top.specs.declared.outcome.Prepared.{Prepared}
 use Rattle.metaedit_top.specs.declared.outcome.Stop.{Stop}
 use Rattle.metaedit_top.specs.declared.words.Command.TheVariants as command
 use Rattle.metaedit_top.specs.declared.words.Request.{Request}
-use Rattle.metaedit_top.specs.Batch.{AllOne, Begun, BegunAll, EachEnds, EndsFile, EndsOrGoesOn, GoesOn, IsReadied, OfEach, Readies, SomeGoOn, end_behind, file_request, set_words, swap_in}
+use Rattle.metaedit_top.specs.Batch.{Begun, BegunAll, EachEnds, EndsFile, EndsOrGoesOn, GoesOn, IsReadied, OfEach, Readies, SomeGoOn, end_behind, file_request, set_words, swap_in}
 use Rattle.metaedit_top.specs.BatchWords.{BatchParts, batch_parts}
 use Rattle.metaedit_top.specs.Changed.{IsFresh, OnSwap}
 use Rattle.metaedit_top.specs.Words.{Text, edit_of, request}
@@ -42,11 +42,11 @@ ready_swap : (q : Request) (a b : Disk) (p : Prepared) → IsReadied q a b p →
 ready_swap q a b p readied same None is fresh belongs = tt
 ready_swap q a b p readied same (Some s) is fresh belongs =
     subst (λ (t : Swapping). Underway t (bytes_of b.slots.main) b) (sym fresh.unmade)
-    (begins b s.plan (bytes_of b.slots.main) readied.settled.alone (λ tells. belongs (subst IsTrue same tells)))
+    (begins b s.plan (bytes_of b.slots.main) readied.settled.stands (λ tells. belongs (subst IsTrue same tells)))
 
 ready_answer : (q : Request) (a b : Disk) (r : Result Prepared Stop) → Readies q a b r → OnTurned (swap_in r) (λ s. Underway s (bytes_of b.slots.main) b)
 unfolding ready_swap
-ready_answer q a b (Ok p) readied = ready_swap q a b p readied.ready readied.stays.crash.tells p.swap refl readied.ready.fresh readied.ready.belongs
+ready_answer q a b (Ok p) readied = ready_swap q a b p readied.ready readied.stays.tells p.swap refl readied.ready.fresh readied.ready.belongs
 ready_answer q a b (Err s) readied = tt
 
 ready_one : (q : Request) (a b : Disk) (e : FileEnd) (x : Option Swapping) → Begun q a b e x → OnTurned x (λ s. Underway s (bytes_of b.slots.main) b)
@@ -127,7 +127,7 @@ one_open [] h = absurd cc
 one_open (x ∷ ms) h = by_first x ms (is_open x) refl h (λ more. one_open ms more)
 
 module _ {D : Type 0} (disk : D → Disk) (lawful : (d : D) → IsLawful (disk d)) (words : List Text) (p : BatchParts) (form : batch_parts words ≡ Some p) (e : List EditItem) (edit : edit_of (p.item ∷ []) ≡ Ok e)
-    (rounds : Option ℕ) (before mid after : List D) (count : length before ≡ length p.files) (one : AllOne disk before) (ends : List FileEnd) (swaps : List (Option Swapping))
+    (rounds : Option ℕ) (before mid after : List D) (count : length before ≡ length p.files) (ends : List FileEnd) (swaps : List (Option Swapping))
     (begun : BegunAll disk e p.files before mid ends swaps) (ms : List Member) (ran : RanRounds disk (files_of disk mid) rounds (map fresh_member swaps) ms mid after) where
   members : length ms ≡ length p.files
   members = ran.ran.members ∙ length_map fresh_member swaps ∙ begun.swapped
@@ -144,7 +144,7 @@ module _ {D : Type 0} (disk : D → Disk) (lawful : (d : D) → IsLawful (disk d
       let here : files_of disk mid i ≡ bytes_of (disk (get_or mid i d)).slots.main = get_map (λ (y : D). bytes_of (disk y).slots.main) mid i d [] (omega (arith, low, mids, count)) in
       let turns : RanBy disk (open_swap (get_or (map fresh_member swaps) i m)) ran.made (get_or (map fresh_member swaps) i m) (get_or ms i m) (files_of disk mid i) (get_or mid i d) (get_or after i d) =
       ran.ran.each i m d (omega (arith, low, size, long)) in
-      left_of (set_words p.item file) e file asked rounds ran.made ran.few disk (disk (get_or before i d)) (one i d (omega (arith, low, count))) (get_or mid i d) (get_or after i d)
+      left_of (set_words p.item file) e file asked rounds ran.made ran.few disk (disk (get_or before i d)) (get_or mid i d) (get_or after i d)
       (lawful (get_or mid i d)) (lawful (get_or after i d)) (get_or ms i m) (get_or ends i x) (get_or swaps i None) (begun.each i d x low)
       (subst (λ (y : Member). RanBy disk (open_swap y) ran.made y (get_or ms i m) (bytes_of (disk (get_or mid i d)).slots.main) (get_or mid i d) (get_or after i d)) member
       (subst (λ (o : List ℕ). RanBy disk (open_swap (get_or (map fresh_member swaps) i m)) ran.made (get_or (map fresh_member swaps) i m) (get_or ms i m) o (get_or mid i d) (get_or after i d)) here turns))

@@ -4,15 +4,16 @@ use Rattle.std.specs.Prelude.{IsTrue, IfErr}
 use Rattle.me_bytes.specs.Bytes.{IsBytes}
 use Rattle.me_disk.specs.Causes.{Rose}
 use Rattle.me_disk.specs.declared.depot.DepotFault.{DepotFault}
-use Rattle.me_disk.specs.Disk.{Disk, Image, IsLawful, Leaves, bytes_of}
+use Rattle.me_disk.specs.Disk.{Disk, Image, IsLawful, Leaves, Only, bytes_of, plain}
 use Rattle.me_disk.specs.Holds.{Holds}
 use Rattle.me_disk.specs.Steps.{ReadsOnly}
 use Rattle.me_disk.proofs.Runs.{rose_sooner, ReadsOnly-trans, Leaves-trans, Leaves-reads, Leaves-weaker}
-use Rattle.edit_journal.specs.Settled.{StandsAlone}
+use Rattle.edit_journal.specs.Settled.{Stands}
 use Rattle.part_tree.specs.Plans.{applied}
 use Rattle.file_swap.specs.Midway.{SettlesEither}
 use Rattle.file_swap.specs.Steps.{bytes_by, bytes_written}
-use Rattle.file_swap.specs.Swap.{Runs, Swapping, fresh}
+use Rattle.file_swap.specs.Swap.{IsSure, Runs, Swapping, fresh}
+use Rattle.file_swap.proofs.Installs.{begins_sure}
 use Rattle.part_tree.specs.declared.field.EditItem.{EditItem}
 use Rattle.part_tree.specs.declared.field.RuleSet.{RuleSet}
 use Rattle.me_report.specs.declared.line.Summary.{Summary}
@@ -26,10 +27,10 @@ use Rattle.metaedit_top.specs.declared.words.Command.TheVariants as command
 use Rattle.metaedit_top.specs.declared.words.Request.{Request}
 use Rattle.metaedit_top.specs.Asked.{Accepts, AcceptsBy, AcceptsEdit, edits_file, reads_file, run_bytes, why_in}
 use Rattle.metaedit_top.specs.Changed.{CarriedBy, IsFresh, IsPrepared, OnSwap, PrepareStops, Prepares, in_front}
-use Rattle.metaedit_top.specs.Run.{HasTold, MayLeave}
+use Rattle.metaedit_top.specs.Run.{HasTold, MayLeave, OneImage}
 use Rattle.metaedit_top.specs.Stage.{ActLeaves, ActStops, Acts, HasActed, IsSettled}
 use Rattle.metaedit_top.specs.Told.{Fixes, ReportsBy, edit_summary, front_by, front_of, summary, summary_by}
-use Rattle.metaedit_top.proofs.Acted.{alone_only, alone_on, stops_here}
+use Rattle.metaedit_top.proofs.Acted.{one_plain, one_read, only_plain, stands_on, stops_here}
 use Rattle.metaedit_top.proofs.Prepared.{either_made, plan_bytes, run_idle, run_made}
 
 -- a swap that has made no call has written nothing
@@ -149,7 +150,7 @@ module _ (q : Request) (edits_it : edits_file q.command ≡ true) where
 
     -- ---- one that is carried out
 
-    module _ (c : Disk) (lawful : IsLawful c) (settled : IsSettled a) (p : Prepared) (h : Prepares q.rules q.edit a b (Ok p)) where
+    module _ (c : Disk) (lawful_b : IsLawful b) (lawful_c : IsLawful c) (settled : IsSettled a) (p : Prepared) (h : Prepares q.rules q.edit a b (Ok p)) where
       same : (o : List ℕ) → Holds a o → bytes_of b.slots.main ≡ o
       same o held = ap bytes_of h.reads.main ∙ held.bytes
 
@@ -164,40 +165,53 @@ module _ (q : Request) (edits_it : edits_file q.command ≡ true) where
       unfolding told fixes by_edit line_of
       idle none reads =
           let all = ReadsOnly-trans a b c h.reads reads in
-          let alone = alone_on (bytes_of a.slots.main) a c all settled.alone in
+          let stands = stands_on (bytes_of a.slots.main) a c all settled.stands in
           record {
             acts = λ o held bytes.
                 let ready = h.ready o held bytes in
                 record {
-                  run = run_idle q edits_it by_edit o p ready bytes none 0 a c (subst (λ (file : List ℕ). StandsAlone file c) held.bytes alone)
+                  run = run_idle q edits_it by_edit o p ready bytes none 0 a c (subst (λ (file : List ℕ). Stands file c) held.bytes stands)
                       (all.work ∙ settled.no_work held.tells) (let w = all.written in omega (arith, w));
                   told = told o ends held ready.summary_is line_of;
                 };
             fixes = fixes ends h.told.no_findings;
             stops = tt;
             leaves = tt;
-            crash = Leaves-reads (MayLeave q a) a c all;
-            again = alone_only (bytes_of a.slots.main) c lawful alone;
+            crash = λ one. Leaves-reads (MayLeave q a) a c all;
+            again = λ one. one_read a c one all;
+            tells = all.tells;
+            later = all.faults;
           }
 
       module _ (s : Swapping) (is : p.swap ≡ Some s) (fresh : IsFresh s) where
-        may : (r : Result Unit DepotFault) → Runs s (bytes_of b.slots.main) b c r → Leaves (MayLeave q a) a c
-        unfolding same by_edit
-        may r runs =
+        -- the file that is read stands there
+        still : Stands (bytes_of b.slots.main) b
+        still = subst (λ (m : Option (List ℕ)). Stands (bytes_of m) b) (sym h.reads.main) (stands_on (bytes_of a.slots.main) a b h.reads settled.stands)
+
+        -- and where there was one image, a crash before the first call leaves it alone
+        sure : OneImage a → IsSure s (bytes_of b.slots.main) b
+        unfolding still
+        sure one =
+            subst (λ (x : Swapping). IsSure x (bytes_of b.slots.main) b) (sym fresh.unmade)
+            (begins_sure b s.plan (bytes_of b.slots.main) (only_plain (bytes_of b.slots.main) b lawful_b still (one_read a b one h.reads)))
+
+        may : (r : Result Unit DepotFault) → Runs s (bytes_of b.slots.main) b c r → OneImage a → Leaves (MayLeave q a) a c
+        unfolding same by_edit sure
+        may r runs one =
             Leaves-trans (MayLeave q a) a b c (Leaves-reads (MayLeave q a) a b h.reads)
             (Leaves-weaker (SettlesEither (bytes_of b.slots.main) (applied s.plan (bytes_of b.slots.main))) (MayLeave q a) b c
             (λ i either o held bytes.
             either_made q edits_it by_edit o p (h.ready o held bytes) bytes s is i
-            (subst (λ (f : List ℕ). SettlesEither f (applied s.plan f) i) (same o held) either)) runs.crash)
+            (subst (λ (f : List ℕ). SettlesEither f (applied s.plan f) i) (same o held) either)) (runs.crash (sure one)))
 
         made : (x : Unit {0}) → Runs s (bytes_of b.slots.main) b c (Ok x) → Acts q stood a c (Ok ends)
-        unfolding same by_edit told fixes may none_written line_of
+        unfolding same by_edit told fixes may none_written line_of sure
         made x runs = record {
           acts = λ o held bytes.
               let ready = h.ready o held bytes in
               record {
-                run = run_made q edits_it by_edit o p ready bytes s is 0 a c (subst (λ (f : List ℕ). StandsAlone (applied s.plan f) c) (same o held) runs.done)
-                    (runs.work (subst IsTrue (sym (runs.crash.tells ∙ h.reads.tells)) held.tells))
+                run = run_made q edits_it by_edit o p ready bytes s is 0 a c (subst (λ (f : List ℕ). Stands (applied s.plan f) c) (same o held) runs.stands)
+                    (runs.work (subst IsTrue (sym (runs.tells ∙ h.reads.tells)) held.tells))
                     (let exact = runs.written.exact in let none = none_written s fresh in let before = h.reads.written in omega (arith, exact, none, before));
                 told = told o ends held ready.summary_is line_of;
               };
@@ -205,7 +219,9 @@ module _ (q : Request) (edits_it : edits_file q.command ≡ true) where
           stops = tt;
           leaves = tt;
           crash = may (Ok x) runs;
-          again = alone_only (applied s.plan (bytes_of b.slots.main)) c lawful runs.done;
+          again = λ one. one_plain (applied s.plan (bytes_of b.slots.main)) c lawful_c runs.stands (runs.only (sure one));
+          tells = runs.tells ∙ h.reads.tells;
+          later = let first = h.reads.faults in let second = runs.cause.later in omega (arith, first, second);
         }
 
         failed : (x : DepotFault) → Runs s (bytes_of b.slots.main) b c (Err x) → Acts q stood a c (Err stop.Depot)
@@ -221,7 +237,9 @@ module _ (q : Request) (edits_it : edits_file q.command ≡ true) where
               let before = h.reads.written in
               omega (arith, most, all, none, before);
           crash = may (Err x) runs;
-          again = tt;
+          again = λ one. tt;
+          tells = runs.tells ∙ h.reads.tells;
+          later = let first = h.reads.faults in let second = runs.cause.later in omega (arith, first, second);
         }
 
         run_so : (r : Result Finished Stop) → CarriedBy (Some s) ends (bytes_of b.slots.main) b c r → Acts q stood a c r
@@ -239,5 +257,5 @@ module _ (q : Request) (edits_it : edits_file q.command ≡ true) where
       carried r x = carried_by p.swap refl h.fresh r x
 
 -- what is ready may be carried out
-pub settled_on : (a b : Disk) → IsSettled a → ReadsOnly a b → StandsAlone (bytes_of b.slots.main) b
-settled_on a b settled reads = subst (λ (m : Option (List ℕ)). StandsAlone (bytes_of m) b) (sym reads.main) (alone_on (bytes_of a.slots.main) a b reads settled.alone)
+pub settled_on : (a b : Disk) → IsSettled a → ReadsOnly a b → Stands (bytes_of b.slots.main) b
+settled_on a b settled reads = subst (λ (m : Option (List ℕ)). Stands (bytes_of m) b) (sym reads.main) (stands_on (bytes_of a.slots.main) a b reads settled.stands)

@@ -2,8 +2,8 @@
 use Rattle.std.proofs.Common.{◌≡◌, ℕ, zero, suc, ◌+◌, ◌≤◌, ◌<◌, List, [], ◌∷◌, ◌++◌, length, map, set, take, get_or, Option, Some, None, Result, Ok, Err, refl, sym, ap, ◌∙◌, subst, arith, inl, inr, ⊎_elim}
 use Rattle.std.specs.Prelude.{◌⊎◌, IfOk, OnErr}
 use Rattle.std.proofs.lemmas.Bool.{cases_eq}
-use Rattle.std.proofs.lemmas.List.{get_or-set_other, length-set, take_more}
-use Rattle.me_disk.specs.Disk.{Disk, Only, read_as}
+use Rattle.std.proofs.lemmas.List.{get_or-set_other, get_or-set_same, length-set, take_more}
+use Rattle.me_disk.specs.Disk.{Disk}
 use Rattle.part_tree.specs.declared.field.EditItem.{EditItem}
 use Rattle.file_swap.specs.Swap.{Swapping}
 use Rattle.turn_batch.specs.Members.{fresh_member}
@@ -15,7 +15,7 @@ use Rattle.metaedit_top.specs.declared.batch_text.FileTexts.{FileTexts}
 use Rattle.metaedit_top.specs.declared.outcome.Prepared.{Prepared}
 use Rattle.metaedit_top.specs.declared.outcome.Stop.{Stop}
 use Rattle.metaedit_top.specs.declared.words.Request.{Request}
-use Rattle.metaedit_top.specs.Batch.{AllOne, Begun, BegunAll, BegunTexts, OfBatch, OfDepots, Readies, StartsBatch, StaysOld, end_in, file_request, swap_in}
+use Rattle.metaedit_top.specs.Batch.{Begun, BegunAll, BegunTexts, OfBatch, OfDepots, Readies, StartsBatch, StaysOld, end_in, file_request, swap_in}
 use Rattle.metaedit_top.specs.BatchText.{AreTextsOf, IsTextOf, end_line, fault_count, name_text}
 use Rattle.metaedit_top.specs.BatchWords.{BatchParts, batch_parts}
 use Rattle.metaedit_top.specs.Words.{Text, edit_of}
@@ -47,6 +47,15 @@ pub begun_by : {E : Type 0} (q : Request) (a b : Disk) (answer : Result Prepared
 begun_by q a b answer readied e x end_is swap_is (Ok s) same_end same_swap =
     record { answer = answer; readied = readied; end_is = same_end ∙ end_is; swap_is = same_swap ∙ swap_is }
 begun_by q a b answer readied e x end_is swap_is (Err m) same_end same_swap = tt
+
+-- so is the file of this number, whose depot was put back
+pub begun_at : {D E : Type 0} (disk : D → Disk) (q : Request) (ds : List D) (i : ℕ) (x y : D) → i < length ds
+    → (r : Result FileStart E) → IfOk r (λ s. Begun q (disk (get_or ds i x)) (disk y) s.end s.swap)
+    → IfOk r (λ s. (d : D) → Begun q (disk (get_or ds i d)) (disk (get_or (set ds i y) i d)) s.end s.swap)
+begun_at disk q ds i x y low (Ok s) begun = λ d.
+    subst (λ (z : _). Begun q (disk z) (disk (get_or (set ds i y) i d)) s.end s.swap) (at_any ds i x d low)
+    (subst (λ (z : _). Begun q (disk (get_or ds i x)) (disk z) s.end s.swap) (sym (get_or-set_same ds i y d low)) begun)
+begun_at disk q ds i x y low (Err m) begun = tt
 
 -- the first k files are begun, and the other depots are as they were
 pub record StartsFront {D : Type 0} (disk : D → Disk) (e : List EditItem) (files : List Text) (k : ℕ) (before after : List D) (ends : List FileEnd) (swaps : List (Option Swapping)) : Type 0 where
@@ -85,9 +94,6 @@ module _ {D : Type 0} (disk : D → Disk) (e : List EditItem) (files : List Text
   pub stays_all : OfDepots disk before after StaysOld
   unfolding stays_at
   stays_all = record { depots = front.depots; each = λ i d low. stays_at i d }
-
-  pub front_one : AllOne disk before → k < length before → (d : D) → Only (read_as (disk (get_or after k d)).slots) (disk (get_or after k d))
-  front_one one low d = subst (λ (x : D). Only (read_as (disk x).slots) (disk x)) (sym (front.rest k d (omega arith))) (one k d low)
 
   -- one more
   module _ (next : List D) (others : (d : D) → next ≡ set after k (get_or next k d)) (low : k < length before) where
@@ -200,23 +206,6 @@ texts_since (t ∷ ts) (e ∷ es) (e' ∷ es') h size since = (
       h.0 (ap fault_count (sym same) ∙ none) ∙ ap end_line (sym same),
   texts_since ts es es' h.1 (omega (arith, size)) (λ i x low. since (suc i) x (omega (arith, low))),
 )
-
--- ---- depots with one image each
-
-pub none_one : {D : Type 0} (disk : D → Disk) → AllOne disk []
-none_one disk = λ i d low. absurd (omega (arith, low))
-
-pub one_more : {D : Type 0} (disk : D → Disk) (ds : List D) (x : D) → AllOne disk ds → Only (read_as (disk x).slots) (disk x) → AllOne disk (ds ++ x ∷ [])
-one_more disk ds x all one = λ i d low.
-    ⊎_elim
-    (λ (here : i ≡ length ds).
-    subst (λ (j : ℕ). Only (read_as (disk (get_or (ds ++ x ∷ []) j d)).slots) (disk (get_or (ds ++ x ∷ []) j d))) (sym here)
-    (subst (λ (z : _). Only (read_as (disk z).slots) (disk z)) (sym (at_end ds x d)) one))
-    (λ (other : i ≡ length ds → ⊥).
-    let size = length_more ds x in
-    let front : i < length ds = omega (arith, low, size, other) in
-    subst (λ (z : _). Only (read_as (disk z).slots) (disk z)) (sym (at_front ds x d i front)) (all i d front))
-    (cases_eq i (length ds))
 
 -- ---- the whole
 

@@ -3,7 +3,7 @@ use Rattle.std.specs.Prelude.{◌≡◌, ◌⊎◌, ℕ, Bool, true, false, IsTr
 use Rattle.std.specs.Io.KnownBytes.{Appends}
 use Rattle.core_table.specs.declared.fault.TableFault.{TableFault}
 use Rattle.me_bytes.specs.Bytes.{IsBytes}
-use Rattle.me_disk.specs.Disk.{Disk, Image, Only, read_as}
+use Rattle.me_disk.specs.Disk.{Disk, Image, read_as}
 use Rattle.edit_journal.specs.Settled.{Settles}
 use Rattle.me_report.specs.declared.line.Summary.{Summary}
 use Rattle.metaedit_top.specs.declared.outcome.Outcome.{Outcome}
@@ -12,7 +12,7 @@ use Rattle.metaedit_top.specs.declared.outcome.Stop.{Stop}
 use Rattle.metaedit_top.specs.declared.words.Request.{Request}
 use Rattle.metaedit_top.specs.Asked.{Accepts}
 use Rattle.metaedit_top.specs.Begun.{Begins, LeavesBy, OnBegun, StandsBy, StopsBy, bytes_before}
-use Rattle.metaedit_top.specs.Run.{AreBytes, HasRun, has_journal}
+use Rattle.metaedit_top.specs.Run.{AreBytes, HasRun, OneImage, has_journal}
 use Rattle.metaedit_top.specs.Tables.{Asks, HasTableFault, reads_table, takes_table}
 use Rattle.metaedit_top.specs.Told.{Fixes, Reports, summary}
 use Rattle.metaedit_top.specs.Words.{makes_file, request}
@@ -130,4 +130,4 @@ pub record TakesTable (words : List (List ℕ)) (left after : Option (List ℕ))
 -- after a device fault the depot has to be opened anew; else what it reads as is again its one image
 abbrev pub IsOneAgain : Outcome → Disk → Type 0
 IsOneAgain (outcome.DepotFault n) new = ⊤
-IsOneAgain _ new = Only (read_as new.slots) new
+IsOneAgain _ new = OneImage new

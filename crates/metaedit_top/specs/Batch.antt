@@ -1,18 +1,18 @@
 -- How a batch ends: each file as the edit of it alone ends, whatever befalls the others (this project's own).
-use Rattle.std.specs.Prelude.{◌≡◌, ◌⊎◌, ℕ, ◌+◌, ◌<◌, ◌≤◌, true, IsTrue, IsSome, List, [], ◌∷◌, length, get_or, drop, map, codes, Option, Some, None, Ok, Err, ⊤, Result, IfOk, IfErr, IfSome, if◌then◌else◌}
+use Rattle.std.specs.Prelude.{◌≡◌, ◌⊎◌, ℕ, ◌+◌, ◌<◌, ◌≤◌, true, IsTrue, IsSome, List, [], ◌∷◌, length, get_or, drop, map, codes, Option, Some, None, Ok, Err, ⊤, Result, IfOk, IfErr, OnOk, IfSome, if◌then◌else◌}
 use Rattle.std.specs.Io.KnownBytes.{Appends}
 use Rattle.me_bytes.specs.Bytes.{IsBytes}
 use Rattle.me_disk.specs.Causes.{Rose}
-use Rattle.me_disk.specs.Disk.{Disk, Image, Leaves, Only, bytes_of, read_as}
+use Rattle.me_disk.specs.Disk.{Disk, Image, Leaves, bytes_of, read_as}
 use Rattle.me_disk.specs.Steps.{ReadsOnly}
-use Rattle.edit_journal.specs.Settled.{IsDamaged, StandsAlone}
+use Rattle.edit_journal.specs.Settled.{IsDamaged}
 use Rattle.part_tree.specs.declared.field.EditItem.{EditItem}
 use Rattle.part_tree.specs.declared.field.RuleSet.TheVariants.{Base}
 use Rattle.part_tree.specs.declared.names.Kind.TheVariants.{Wave}
 use Rattle.part_tree.specs.declared.plan.Plan.{Plan}
 use Rattle.part_tree.specs.Plans.{Belongs}
 use Rattle.field_model.specs.KindReads.{IsPlanOf}
-use Rattle.file_swap.specs.Midway.{Midway}
+use Rattle.file_swap.specs.Midway.{Midway, Phase}
 use Rattle.file_swap.specs.Steps.{calls}
 use Rattle.file_swap.specs.Swap.{Swapping}
 use Rattle.turn_batch.specs.Members.{failed_in, fresh_member}
@@ -35,7 +35,7 @@ use Rattle.metaedit_top.specs.BatchText.{AreTextsOf, end_of, name_text}
 use Rattle.metaedit_top.specs.BatchWords.{BatchParts, batch_parts}
 use Rattle.metaedit_top.specs.Changed.{IsFresh, IsLine, IsPrepared, OnSwap}
 use Rattle.metaedit_top.specs.Answered.{AcceptsWords, Because, DoneWith, MayStandOf}
-use Rattle.metaedit_top.specs.Run.{HasSettled, LeavesAt, OnFile, Stops}
+use Rattle.metaedit_top.specs.Run.{HasSettled, IsOneStop, LeavesAt, OnFile, OneImage, Stops}
 use Rattle.metaedit_top.specs.Told.{summary}
 use Rattle.metaedit_top.specs.Words.{Text, edit_of, request}
 
@@ -59,7 +59,7 @@ EndsAs words old new end.Memory = Because words None old new stop.Memory
 -- after a device fault the depot has to be opened anew; else what it reads as is again its one image
 abbrev pub IsOneEnd : FileEnd → Disk → Type 0
 IsOneEnd (end.DepotFault n) new = ⊤
-IsOneEnd _ new = Only (read_as new.slots) new
+IsOneEnd _ new = OneImage new
 
 -- nothing was found
 abbrev pub FindsNothing : FileEnd → Type 0
@@ -72,9 +72,10 @@ FinishesFile (end.Done s) = ⊤
 FinishesFile end.Memory = ⊤
 FinishesFile _ = ⊥
 
--- What a crash at any moment leaves of a file, and what holds of it at any end.
+-- What a crash at any moment leaves of a file whose one image at the start was what its depot read as, and what holds of
+-- it at any end.
 pub record KeepsFile (words : List Text) (old new : Disk) : Type 0 where
-  pub any_moment : (i : Image) → new.since old.clock i → MayStandOf words None old i
+  pub any_moment : OneImage old → (i : Image) → new.since old.clock i → MayStandOf words None old i
   pub damaged : IsTrue old.tells → IsDamaged (read_as old.slots) → ReadsOnly old new
   pub tells : new.tells ≡ old.tells
 
@@ -90,18 +91,25 @@ abbrev pub EndsWithin : List Text → Option ℕ → Disk → FileEnd → Type 0
 EndsWithin words (Some r) old (end.Done s) = s.changed ≡ true → NeedsCalls words old (λ p n o. n ≤ r)
 EndsWithin words rounds old _ = ⊤
 
--- A file that has its end.
+-- A file that has its end. That the new file stands alone is told by `ends`, by which it stands, and by `again`: where what
+-- the depot read as at the start was its one image, it is so again.
 pub record EndsFile (words : List Text) (rounds : Option ℕ) (old new : Disk) (e : FileEnd) : Type 0 where
   pub ends : EndsAs words old new e
   pub finds : FindsNothing e
-  pub again : IsOneEnd e new
+  pub again : OneImage old → IsOneEnd e new
   pub keeps : KeepsFile words old new
   pub within : EndsWithin words rounds old e
   pub complete : AcceptsWords words None old → (Rose old.faults new.faults → ⊥) → FinishesFile e
 
+-- So many of a plan's calls were made; and where what the depot read as at the start was its one image, each image that a
+-- crash now may leave is one after them.
+pub record IsMidway (p : Plan) (o : List ℕ) (k : ℕ) (old new : Disk) : Type 0 where
+  pub made : Midway p o k new
+  pub images : OneImage old → (i : Image) → new.images i → Phase p o k i
+
 -- A file whose edit goes on after so many rounds: so many of its calls were made, and some are left.
 pub record GoesOn (words : List Text) (rounds : ℕ) (old new : Disk) : Type 0 where
-  pub midway : NeedsCalls words old (λ p n o. Midway p o rounds new × (rounds < n))
+  pub midway : NeedsCalls words old (λ p n o. IsMidway p o rounds old new × (rounds < n))
   pub keeps : KeepsFile words old new
 
 -- a file that has its end, or goes on after so many rounds where these are a number
@@ -112,8 +120,10 @@ EndsOrGoesOn words None old new None = ⊥
 
 -- A file that wasn't edited: at most a journal that stood beside it was redone.
 pub record StaysOld (old new : Disk) : Type 0 where
-  pub crash : Leaves (SettlesAlike (read_as old.slots)) old new
+  pub crash : OneImage old → Leaves (SettlesAlike (read_as old.slots)) old new
   pub damaged : IsTrue old.tells → IsDamaged (read_as old.slots) → ReadsOnly old new
+  pub tells : new.tells ≡ old.tells
+  pub later : old.faults ≤ new.faults
   pub written : IsTrue old.tells → new.written ≤ old.written + bytes_to_redo (read_as old.slots)
 
 -- ---- all files
@@ -198,10 +208,12 @@ pub record IsReadied (q : Request) (old new : Disk) (p : Prepared) : Type 0 wher
 -- What is left of a file that is settled and made ready, or why it isn't.
 pub record Readies (q : Request) (old new : Disk) (r : Result Prepared Stop) : Type 0 where
   pub stays : StaysOld old new
-  pub since : (i : Image) → new.since old.clock i → SettlesAlike (read_as old.slots) i
+  pub since : OneImage old → (i : Image) → new.since old.clock i → SettlesAlike (read_as old.slots) i
   pub ready : IfOk r (IsReadied q old new)
   pub stops : IfErr r (Stops q old new)
   pub leaves : IfErr r (LeavesAt q old new)
+  pub again_done : OneImage old → OnOk r (OneImage new)
+  pub again : OneImage old → IfErr r (λ s. IsOneStop s new)
 
 -- the end that an answer gives, where the device doesn't fail from there on
 abbrev pub end_in : Result Prepared Stop → ℕ → FileEnd
@@ -238,11 +250,6 @@ pub record BegunAll {D : Type 0} (disk : D → Disk) (e : List EditItem) (files 
   pub each : (i : ℕ) (d : D) (x : FileEnd) → i < length files
       → Begun (file_request e (get_or files i [])) (disk (get_or before i d)) (disk (get_or after i d))
       (get_or ends i x) (get_or swaps i None)
-
--- each depot's one image is what it reads as
-abbrev pub AllOne : {D : Type 0} → (D → Disk) → List D → Type 0
-AllOne disk ds =
-    (i : ℕ) (d : _) → i < length ds → Only (read_as (disk (get_or ds i d)).slots) (disk (get_or ds i d))
 
 -- What is started of a batch.
 pub record StartsBatch {D : Type 0} (disk : D → Disk) (p : BatchParts) (before after : List D)

@@ -3,10 +3,10 @@
 use Rattle.std.specs.Prelude.{◌≡◌, ◌⊎◌, ℕ, ◌+◌, ◌≤◌, Bool, true, false, IsTrue, IsSome, List, length, Option, Some, None, Result, IfOk, IfErr, OnOk, if◌then◌else◌, ⊤}
 use Rattle.me_bytes.specs.Bytes.{IsBytes}
 use Rattle.me_disk.specs.Causes.{Rose}
-use Rattle.me_disk.specs.Disk.{Disk, Image, Only, Slots, bytes_of, read_as}
+use Rattle.me_disk.specs.Disk.{Disk, Image, Slots, bytes_of, read_as}
 use Rattle.me_disk.specs.Steps.{OnlyWork, ReadsOnly}
 use Rattle.edit_journal.specs.Damage.{damage_over}
-use Rattle.edit_journal.specs.Settled.{IsDamaged, Settles, StandsAlone}
+use Rattle.edit_journal.specs.Settled.{IsDamaged, Settles, Stands}
 use Rattle.recovery.specs.Recovered.{bytes_to_redo}
 use Rattle.me_generate.specs.Stated.{stated}
 use Rattle.me_generate.specs.declared.making.MakeFault.{MakeFault}
@@ -16,7 +16,7 @@ use Rattle.metaedit_top.specs.declared.outcome.Stop.{Stop}
 use Rattle.metaedit_top.specs.declared.outcome.Stop.TheVariants as stop
 use Rattle.metaedit_top.specs.declared.words.Request.{Request}
 use Rattle.metaedit_top.specs.Asked.{run_bytes, why_in}
-use Rattle.metaedit_top.specs.Run.{AreBytes, HasRun, HasTold, IsEither, IsOneStop, IsRefused, IsTooLarge, LeavesAt, StandsNew, Stops, has_journal}
+use Rattle.metaedit_top.specs.Run.{AreBytes, HasRun, HasTold, IsEither, IsOneStop, IsRefused, IsTooLarge, LeavesAt, OneImage, StandsNew, Stops, has_journal}
 use Rattle.metaedit_top.specs.Told.{Fixes}
 use Rattle.metaedit_top.specs.Words.{makes_file}
 
@@ -89,9 +89,9 @@ MakeStops q old new (stop.TooLarge size limit) =
     IsTrue old.tells → IsClear old.slots × IsTooLarge q.rules q.edit (made_of q) (record { size = size; limit = limit })
 MakeStops q old new stop.Memory = ⊤
 
--- the file was made and stands alone, and nothing else was done
+-- the file was made and stands there, and nothing else was done
 pub record HasMade (o : List ℕ) (old new : Disk) : Type 0 where
-  pub alone : StandsAlone o new
+  pub stands : Stands o new
   pub no_work : IsTrue old.tells → new.slots.work ≡ None
   pub written : new.written ≡ old.written + length o
 
@@ -117,19 +117,19 @@ abbrev pub stop_of_make : MakeFault → Stop
 stop_of_make make.Depot = stop.Depot
 stop_of_make make.Memory = stop.Memory
 
--- What a file that is to be made, and its edit, come to, up to the output: what is told, or why it stops; what a crash at any
--- moment leaves; and that what the depot reads as is again its one image.
+-- What a file that is to be made, and its edit, come to, up to the output: what is told, or why it stops. Where there was one
+-- image at entry: what a crash at any moment leaves, and that what the depot reads as is again its one image.
 pub record MakesFile (q : Request) (old new : Disk) (r : Result Finished Stop) : Type 0 where
   pub ends : IfOk r (λ f. OnBegun q old (λ o. IsBytes o
       → HasRun q o (bytes_before q old o) old new × HasTold q o (has_journal old) f))
   pub fixes : IfOk r (λ f. Fixes q.command f.summary)
   pub stops : IfErr r (MakeStops q old new)
   pub leaves : IfErr r (MakeLeaves q old new)
-  pub crash : (i : Image) → new.since old.clock i → MayStandBy q old i
+  pub crash : OneImage old → (i : Image) → new.since old.clock i → MayStandBy q old i
   pub damaged : IsTrue old.tells → IsDamaged (read_as old.slots) → ReadsOnly old new
   pub there : IsTrue old.tells → IsSome old.slots.main → ReadsOnly old new
-  pub again_done : OnOk r (Only (read_as new.slots) new)
-  pub again : IfErr r (λ s. IsOneStop s new)
+  pub again_done : OneImage old → OnOk r (OneImage new)
+  pub again : OneImage old → IfErr r (λ s. IsOneStop s new)
   pub tells : new.tells ≡ old.tells
   pub later : old.faults ≤ new.faults
 
@@ -163,10 +163,10 @@ pub record Carries (q : Request) (old new : Disk) (r : Result Finished Stop) : T
   pub fixes : IfOk r (λ f. Fixes q.command f.summary)
   pub stops : IfErr r (StopsBy q old new)
   pub leaves : IfErr r (LeavesBy q old new)
-  pub crash : (i : Image) → new.since old.clock i → MayStandBy q old i
+  pub crash : OneImage old → (i : Image) → new.since old.clock i → MayStandBy q old i
   pub damaged : IsTrue old.tells → IsDamaged (read_as old.slots) → ReadsOnly old new
   pub there : makes_file q.command ≡ true → IsTrue old.tells → IsSome old.slots.main → ReadsOnly old new
-  pub again_done : OnOk r (Only (read_as new.slots) new)
-  pub again : IfErr r (λ s. IsOneStop s new)
+  pub again_done : OneImage old → OnOk r (OneImage new)
+  pub again : OneImage old → IfErr r (λ s. IsOneStop s new)
   pub tells : new.tells ≡ old.tells
   pub later : old.faults ≤ new.faults

@@ -1,4 +1,4 @@
--- The edit of a file that stands alone, up to where it is carried out: what is ready then, or why it stops (this
+-- The edit of a file that is settled, up to where it is carried out: what is ready then, or why it stops (this
 -- project's own).
 use Rattle.std.specs.Prelude.{◌≡◌, ℕ, ◌++◌, Bool, true, false, IsTrue, List, Option, Some, None, IfOk, IfErr, ⊤, Result, Ok, Err}
 use Rattle.me_bytes.specs.Bytes.{IsBytes}
@@ -80,7 +80,7 @@ pub record StartsChange (e : List EditItem) (n : ℕ) (old new : Disk) (r : Resu
   pub stops : IfErr r (ChangeStops e old new)
   pub reads : ReadsOnly old new
 
--- ---- of a file that stands alone
+-- ---- of a file that is settled
 
 -- a swap by the plan of the edit, which makes its new file; none where no item has an effect
 abbrev pub MakesEdit : Option Swapping → List EditItem → List ℕ → Type 0
@@ -105,7 +105,7 @@ PrepareStops rules e old new (stop.TooLarge size limit) =
     OnHeld old (λ o. IsBytes o → IsTooLarge rules e o (record { size = size; limit = limit }))
 PrepareStops rules e old new stop.Memory = Unit {0}
 
--- What is ready for the edit of a file that stands alone, which is only read, or why it isn't.
+-- What is ready for the edit of a file that is settled, which is only read, or why it isn't.
 pub record Prepares (rules : RuleSet) (e : List EditItem) (old new : Disk) (r : Result Prepared Stop) : Type 0 where
   pub ready : OnHeld old (λ o. IsBytes o → IfOk r (IsPrepared rules e o))
   pub fresh : IfOk r (λ p. OnSwap p.swap IsFresh)

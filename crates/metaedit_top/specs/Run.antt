@@ -5,7 +5,7 @@ use Rattle.me_disk.specs.Causes.{Rose}
 use Rattle.me_disk.specs.Disk.{Disk, Image, Leaves, Only, read_as, bytes_of}
 use Rattle.me_disk.specs.Steps.{ReadsOnly}
 use Rattle.me_disk.specs.Holds.{Holds}
-use Rattle.edit_journal.specs.Settled.{IsDamaged, Settles, StandsAlone}
+use Rattle.edit_journal.specs.Settled.{IsDamaged, Settles, Stands}
 use Rattle.recovery.specs.Recovered.{IsBroken, bytes_to_redo}
 use Rattle.recovery.specs.Redo.{SettlesAlike}
 use Rattle.part_tree.specs.declared.field.Broken.{Broken}
@@ -20,6 +20,11 @@ use Rattle.metaedit_top.specs.Asked.{Accepts, IsEdited, broken_by, edits_file, n
 use Rattle.metaedit_top.specs.Told.{Fixes, Reports, summary}
 
 -- ---- what a crash may leave
+
+-- What the depot reads as is the one image that a crash now may leave. What is said of crashes is said where it was so
+-- at entry.
+abbrev pub OneImage : Disk → Type 0
+OneImage d = Only (read_as d.slots) d
 
 -- what stands there is bytes
 abbrev pub AreBytes : Option (List ℕ) → Type 0
@@ -51,11 +56,11 @@ MayLeave q d i = (o : List ℕ) → Holds d o → IsBytes o → IsEither q o i
 
 -- ---- what a run leaves that came to its end
 
--- The new file stands alone, now and after a crash; it is the old one edited; and these bytes were written, of which a
--- recovery before it wrote some.
+-- The new file stands there, with no journal beside it; it is the old one edited; and these bytes were written, of which
+-- a recovery before it wrote some.
 pub record HasRun (q : Request) (o : List ℕ) (redone : ℕ) (old new : Disk) : Type 0 where
   pub accepts : Accepts q o
-  pub alone : StandsAlone (new_of q o) new
+  pub stands : Stands (new_of q o) new
   pub no_work : new.slots.work ≡ None
   pub edited : IsEdited q o
   pub written : new.written ≡ old.written + (redone + run_bytes q o)
@@ -78,14 +83,14 @@ pub record IsRefused (rules : RuleSet) (e : List EditItem) (o : List ℕ) (b : B
   pub supported : why_in o ≡ None
   pub broken : broken_by rules e o ≡ Some b
 
--- The file that the state at entry stands for stands alone, and a crash at any moment would have left what stands for
--- it. A journal that stood beside it is redone, and no file that was begun is left.
+-- The file that the state at entry stands for stands there. A journal that stood beside it is redone, and no file that
+-- was begun is left. Where there was one image at entry, a crash at any moment would have left what stands for the same.
 pub record HasSettled (old new : Disk) : Type 0 where
-  pub alone : StandsAlone (bytes_of new.slots.main) new
+  pub stands : Stands (bytes_of new.slots.main) new
   pub settles : IsTrue old.tells → Settles (Some (bytes_of new.slots.main)) (read_as old.slots)
   pub no_work : IsTrue old.tells → new.slots.work ≡ None
   pub written : IsTrue old.tells → new.written ≡ old.written + bytes_to_redo (read_as old.slots)
-  pub crash : Leaves (SettlesAlike (read_as old.slots)) old new
+  pub crash : OneImage old → Leaves (SettlesAlike (read_as old.slots)) old new
 
 -- The depot's state stands for a file, of which this holds.
 abbrev pub OnFile : Disk → (List ℕ → Type 0) → Type 0
@@ -129,21 +134,21 @@ has_journal d = is_some d.slots.journal
 -- after a device fault the depot has to be opened anew; else what it reads as is again its one image
 abbrev pub IsOneStop : Stop → Disk → Type 0
 IsOneStop stop.Depot new = ⊤
-IsOneStop _ new = Only (read_as new.slots) new
+IsOneStop _ new = OneImage new
 
 -- ---- a run up to its output
 
--- What it answers and leaves: it came to its end and is told, or it stopped for a cause; what a crash at any moment
--- leaves; and that what the depot reads as is again its one image.
+-- What it answers and leaves: it came to its end and is told, or it stopped for a cause. Where there was one image at
+-- entry: what a crash at any moment leaves, and that what the depot reads as is again its one image.
 pub record Runs (q : Request) (old new : Disk) (r : Result Finished Stop) : Type 0 where
   pub ends : IfOk r (λ f. OnFile old (λ o. IsBytes o
       → HasRun q o (bytes_to_redo (read_as old.slots)) old new × HasTold q o (has_journal old) f))
   pub fixes : IfOk r (λ f. Fixes q.command f.summary)
   pub stops : IfErr r (Stops q old new)
   pub leaves : IfErr r (LeavesAt q old new)
-  pub crash : (i : Image) → new.since old.clock i → MayStand q old i
+  pub crash : OneImage old → (i : Image) → new.since old.clock i → MayStand q old i
   pub damaged : IsTrue old.tells → IsDamaged (read_as old.slots) → ReadsOnly old new
-  pub again_done : OnOk r (Only (read_as new.slots) new)
-  pub again : IfErr r (λ s. IsOneStop s new)
+  pub again_done : OneImage old → OnOk r (OneImage new)
+  pub again : OneImage old → IfErr r (λ s. IsOneStop s new)
   pub tells : new.tells ≡ old.tells
   pub later : old.faults ≤ new.faults

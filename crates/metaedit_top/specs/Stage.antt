@@ -1,11 +1,11 @@
--- A command on a file that stands alone: what it leaves and tells, and why it stops.
+-- A command on a file that is settled: what it leaves and tells, and why it stops.
 use Rattle.std.specs.Prelude.{◌≡◌, ℕ, ◌+◌, ◌≤◌, nat_lt, if◌then◌else◌, Bool, true, IsTrue, IfOk, IfErr, OnOk, List, Some, None, Result, Ok, Err}
 use Rattle.me_bytes.specs.Bytes.{IsBytes}
 use Rattle.me_disk.specs.Causes.{Rose}
-use Rattle.me_disk.specs.Disk.{Disk, Leaves, Only, bytes_of, read_as}
+use Rattle.me_disk.specs.Disk.{Disk, Leaves, bytes_of}
 use Rattle.me_disk.specs.Holds.{Holds}
 use Rattle.me_disk.specs.Steps.{ReadsOnly}
-use Rattle.edit_journal.specs.Settled.{StandsAlone}
+use Rattle.edit_journal.specs.Settled.{Stands}
 use Rattle.part_tree.specs.declared.plan.PlanFault.{PlanFault}
 use Rattle.part_tree.specs.declared.plan.PlanFault.TheVariants as plan
 use Rattle.part_tree.specs.declared.why.ReadFault.{ReadFault}
@@ -19,19 +19,19 @@ use Rattle.metaedit_top.specs.declared.outcome.Stop.{Stop}
 use Rattle.metaedit_top.specs.declared.outcome.Stop.TheVariants as stop
 use Rattle.metaedit_top.specs.declared.words.Request.{Request}
 use Rattle.metaedit_top.specs.Asked.{edits_file, reads_file, run_bytes, why_in}
-use Rattle.metaedit_top.specs.Run.{HasRun, HasTold, IsRefused, IsTooLarge, MayLeave}
+use Rattle.metaedit_top.specs.Run.{HasRun, HasTold, IsRefused, IsTooLarge, MayLeave, OneImage}
 use Rattle.metaedit_top.specs.Told.{Fixes}
 
--- The depot's file stands alone, and nothing is left of another.
+-- The depot's file stands there with no journal beside it, and nothing is left of another.
 pub record IsSettled (d : Disk) : Type 0 where
-  pub alone : StandsAlone (bytes_of d.slots.main) d
+  pub stands : Stands (bytes_of d.slots.main) d
   pub no_work : IsTrue d.tells → d.slots.work ≡ None
 
 -- of a file that the depot holds, this holds
 abbrev pub OnHeld : Disk → (List ℕ → Type 0) → Type 0
 OnHeld d P = (o : List ℕ) → Holds d o → P o
 
--- The new file stands alone, and this is told.
+-- The new file stands there, and this is told.
 pub record HasActed (q : Request) (o : List ℕ) (stood : Bool) (old new : Disk) (f : Finished) : Type 0 where
   pub run : HasRun q o 0 old new
   pub told : HasTold q o stood f
@@ -54,14 +54,16 @@ abbrev pub ActLeaves : Request → Disk → Disk → Stop → Type 0
 ActLeaves q old new stop.Depot = OnHeld old (λ o. IsBytes o → new.written ≤ old.written + run_bytes q o)
 ActLeaves q old new _ = ReadsOnly old new
 
--- What a command answers and leaves.
+-- What a command answers and leaves, and what a crash leaves of it where there was one image at entry.
 pub record Acts (q : Request) (stood : Bool) (old new : Disk) (r : Result Finished Stop) : Type 0 where
   pub acts : OnHeld old (λ o. IsBytes o → IfOk r (HasActed q o stood old new))
   pub fixes : IfOk r (λ f. Fixes q.command f.summary)
   pub stops : IfErr r (ActStops q old new)
   pub leaves : IfErr r (ActLeaves q old new)
-  pub crash : Leaves (MayLeave q old) old new
-  pub again : OnOk r (Only (read_as new.slots) new)
+  pub crash : OneImage old → Leaves (MayLeave q old) old new
+  pub again : OneImage old → OnOk r (OneImage new)
+  pub tells : new.tells ≡ old.tells
+  pub later : old.faults ≤ new.faults
 
 -- ---- faults that stop a run
 

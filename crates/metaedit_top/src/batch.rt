@@ -1,6 +1,5 @@
 // One edit of many files, in turns.
 ghost use Rattle.std.specs.Prelude.{◌≡◌, ◌<◌, ℕ, List, [], ◌∷◌, ◌++◌, Option, Some, None, Ok, Err, IfOk, OnOk, OnErr, length, get_or, map, set, take, true, if◌then◌else◌};
-ghost use Rattle.me_disk.specs.Disk.{Only, read_as};
 ghost use Rattle.me_disk.specs.Causes.{Rose};
 ghost use Rattle.file_swap.specs.Swap.{Swapping};
 ghost use Rattle.turn_batch.specs.Members.{fresh_member, is_open};
@@ -8,7 +7,7 @@ ghost use Rattle.turn_batch.specs.declared.member.Member.{Member};
 ghost use Rattle.std.specs.Io.KnownBytes.{Appends};
 ghost use Rattle.metaedit_top.specs.declared.outcome.UsageFault.{UsageFault};
 ghost use Rattle.metaedit_top.specs.declared.batch_end.FileEnd.{FileEnd};
-ghost use Rattle.metaedit_top.specs.Batch.{AllOne, Begun, BegunAll, BegunTexts, EachEnds, FinishesBatch, OfBatch, OfDepots, OnOutFault, OnRan, OnStopped, Readies, SomeGoOn, StartsBatch, StaysOld, end_behind, end_in, file_request, prints, swap_in};
+ghost use Rattle.metaedit_top.specs.Batch.{Begun, BegunAll, BegunTexts, EachEnds, FinishesBatch, OfBatch, OfDepots, OnOutFault, OnRan, OnStopped, Readies, SomeGoOn, StartsBatch, StaysOld, end_behind, end_in, file_request, prints, swap_in};
 ghost use Rattle.metaedit_top.specs.BatchText.{batch_text, end_line, name_text};
 ghost use Rattle.metaedit_top.specs.BatchWords.{batch_files as files_in, is_batch};
 
@@ -49,7 +48,6 @@ struct Started {
 
 // Settles a file after a crash, and makes ready what is needed for the edit.
 fn ready_file<D: Depot>(alloc: Global, depot: &mut D, edit: &Edit) -> Result<Prepared, Stop>
-    requires { Only (read_as (D.disk depot.old).slots) (D.disk depot.old) }
     ensures { (file : List ℕ) → Readies (file_request edit.now file) (D.disk depot.old) (D.disk depot.new) result }
 {
     let before = depot.faults();
@@ -94,7 +92,6 @@ fn start_file<D: Depot>(
     file: &Word,
     edit: &Edit,
 ) -> Result<FileStart, NoMemory>
-    requires { Only (read_as (D.disk depot.old).slots) (D.disk depot.old) }
     ensures begun { IfOk result (λ s. Begun (file_request edit.now file.now)
         (D.disk depot.old) (D.disk depot.new) s.end s.swap) }
     ensures name { IfOk result (λ s. s.texts.name ≡ name_text file.now) }
@@ -114,8 +111,7 @@ fn start_at<D: Depot>(
     file: &Word,
     edit: &Edit,
 ) -> Result<FileStart, NoMemory>
-    requires inside { i < length depots.old }
-    requires one { (d : D) → Only (read_as (D.disk (get_or depots.old i d)).slots) (D.disk (get_or depots.old i d)) }
+    requires { i < length depots.old }
     ensures begun { IfOk result (λ s. (d : D) → Begun (file_request edit.now file.now)
         (D.disk (get_or depots.old i d)) (D.disk (get_or depots.new i d)) s.end s.swap) }
     ensures name { IfOk result (λ s. s.texts.name ≡ name_text file.now) }
@@ -143,8 +139,7 @@ fn start_files<D: Depot>(
     files: &[Word],
     edit: &Edit,
 ) -> Result<Started, NoMemory>
-    requires depots { length depots.old ≡ length files.now }
-    requires one { AllOne D.disk depots.old }
+    requires { length depots.old ≡ length files.now }
     ensures begun { IfOk result (λ s. (swaps : List (Option Swapping)) × (s.batch ≡ map fresh_member swaps)
         × BegunAll D.disk edit.now files.now depots.old depots.new s.ends.items swaps) }
     ensures texts { IfOk result (λ s. BegunTexts files.now s.ends.items s.texts.items) }
@@ -230,8 +225,7 @@ fn ended(batch: &Batch, ends: &[FileEnd], mut left: Vec<Option<FileEnd>>) -> Vec
 
 // Settles and reads the files that the words of a batch name, and begins their edits.
 fn start<D: Depot>(alloc: Global, words: &[Word], depots: &mut [D]) -> Result<Started, NoMemory>
-    requires form { (n : ℕ) × (files_in words.now ≡ Ok n) × (length depots.old ≡ n) }
-    requires one { AllOne D.disk depots.old }
+    requires { (n : ℕ) × (files_in words.now ≡ Ok n) × (length depots.old ≡ n) }
     ensures starts { IfOk result (λ s. OfBatch words.now (λ p. StartsBatch D.disk p depots.old depots.new s)) }
     ensures stays { OnErr result (OfDepots D.disk depots.old depots.new StaysOld) }
 {
@@ -252,8 +246,7 @@ fn edit_files<D: Depot, K: Sink>(
     out: &mut K,
     rounds: Option<u64>,
 ) -> BatchOutcome
-    requires form { (n : ℕ) × (files_in words.now ≡ Ok n) × (length depots.old ≡ n) }
-    requires one { AllOne D.disk depots.old }
+    requires { (n : ℕ) × (files_in words.now ≡ Ok n) × (length depots.old ≡ n) }
     ensures ran { OnRan result (λ ends. OfBatch words.now (λ p. EachEnds D.disk p rounds depots.old depots.new ends
         × Appends (K.contents out.old) (K.contents out.new) (batch_text p.files ends))) }
     ensures out_fault { OnOutFault result (λ ends. Rose (K.faults out.old) (K.faults out.new)
@@ -291,7 +284,7 @@ fn edit_files<D: Depot, K: Sink>(
 
 /// Edits many files, each on its own depot: settles, reads and plans each, and then makes one device call of each in
 /// turn until every file has its end, or until so many rounds were made. Prints the line of each file, and how many are
-/// done.
+/// done. What is told of a crash is told of each file where what its depot read as at the start was its one image.
 pub fn metaedit_batch<D: Depot, K: Sink>(
     alloc: Global,
     words: &[Word],
@@ -301,7 +294,6 @@ pub fn metaedit_batch<D: Depot, K: Sink>(
 ) -> BatchOutcome
     requires batch { is_batch words.now ≡ true }
     requires depots { (n : ℕ) → files_in words.now ≡ Ok n → length depots.old ≡ n }
-    requires one { AllOne D.disk depots.old }
 
     // Each file has its end, as the edit of it alone ends; and the report is printed.
     ensures ran { OnRan result (λ ends. OfBatch words.now (λ p. EachEnds D.disk p rounds depots.old depots.new ends

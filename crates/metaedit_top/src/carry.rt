@@ -1,6 +1,5 @@
 // What a request asks for, whether it makes a file or not.
 ghost use Rattle.std.specs.Prelude.{◌≡◌, true};
-ghost use Rattle.me_disk.specs.Disk.{Only, read_as};
 ghost use Rattle.me_generate.specs.Stated.{IsMade};
 ghost use Rattle.metaedit_top.specs.Begun.{Carries};
 ghost use Rattle.metaedit_top.specs.Words as spec;
@@ -16,7 +15,6 @@ use std::alloc::Global;
 fn make_counted<D: Depot>(alloc: Global, depot: &mut D, request: &Request) -> Result<Finished, Stop>
     requires makes { spec.makes_file request.now.command ≡ true }
     requires number { IsMade request.now.kind request.now.n }
-    requires one { Only (read_as (D.disk depot.old).slots) (D.disk depot.old) }
     ensures { Carries request.now (D.disk depot.old) (D.disk depot.new) result }
 {
     let before = depot.faults();
@@ -33,7 +31,6 @@ pub(crate) fn carry<D: Depot>(
     request: &Request,
 ) -> Result<Finished, Stop>
     requires number { spec.makes_file request.now.command ≡ true → IsMade request.now.kind request.now.n }
-    requires one { Only (read_as (D.disk depot.old).slots) (D.disk depot.old) }
     ensures { Carries request.now (D.disk depot.old) (D.disk depot.new) result }
 {
     if makes_file(request.command) {

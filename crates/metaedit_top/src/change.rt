@@ -1,8 +1,8 @@
-// The edit of a file that stands alone: what is ready for it, and how that is carried out.
+// The edit of a file that is settled: what is ready for it, and how that is carried out.
 ghost use Rattle.std.specs.Prelude.{◌≡◌, None, IsTrue, IfOk};
 ghost use Rattle.me_disk.specs.Disk.{bytes_of};
 ghost use Rattle.me_report.specs.Done.{done_line as line_of};
-ghost use Rattle.edit_journal.specs.Settled.{StandsAlone};
+ghost use Rattle.edit_journal.specs.Settled.{Stands};
 ghost use Rattle.part_tree.specs.Plans.{Belongs};
 ghost use Rattle.edit_planner.specs.Facts.{IsRead};
 ghost use Rattle.edit_planner.specs.Plan.{IsReady, fields_in, kind_in, streams_in, told_in};
@@ -45,7 +45,7 @@ pub(crate) fn tell_edit(alloc: Global, summary: Summary) -> Result<Finished, NoM
     Ok(Finished { summary, text })
 }
 
-/// Makes ready what is needed for an edit by the map of a file that stands alone, where each item has an effect and no
+/// Makes ready what is needed for an edit by the map of a file that is settled, where each item has an effect and no
 /// rule is broken. The file is only read.
 pub(crate) fn start_change<D: Depot>(
     alloc: Global,
@@ -72,10 +72,10 @@ pub(crate) fn start_change<D: Depot>(
     })
 }
 
-/// Carries out what is ready, on the file that stands alone.
+/// Carries out what is ready, on the file that stands there.
 pub(crate) fn carry_out<D: Depot>(depot: &mut D, prepared: Prepared) -> Result<Finished, Stop>
     requires fresh { OnSwap prepared.swap IsFresh }
-    requires alone { StandsAlone (bytes_of (D.disk depot.old).slots.main) (D.disk depot.old) }
+    requires stands { Stands (bytes_of (D.disk depot.old).slots.main) (D.disk depot.old) }
     requires belongs { IsTrue (D.disk depot.old).tells
         → OnSwap prepared.swap (λ s. Belongs s.plan (bytes_of (D.disk depot.old).slots.main)) }
     ensures { CarriedBy prepared.swap prepared.finished

@@ -1,7 +1,6 @@
 // A file that is made, and edited.
 ghost use Rattle.std.specs.Prelude.{◌≡◌, true, IsTrue, IfOk, IfErr, OnOk};
 ghost use Rattle.field_model.specs.KindFacts.{facts};
-ghost use Rattle.me_disk.specs.Disk.{Only, read_as};
 ghost use Rattle.me_disk.specs.Steps.{ReadsOnly};
 ghost use Rattle.me_generate.specs.Stated.{IsMade};
 ghost use Rattle.metaedit_top.specs.Begun.{IsClear, MakeLeaves, MakeStops, MakesFile};
@@ -85,7 +84,6 @@ pub(crate) fn make_file<D: Depot>(
 ) -> Result<Finished, Stop>
     requires makes { makes_file request.now.command ≡ true }
     requires number { IsMade request.now.kind request.now.n }
-    requires one { Only (read_as (D.disk depot.old).slots) (D.disk depot.old) }
     ensures { MakesFile request.now (D.disk depot.old) (D.disk depot.new) result }
 {
     find_none(depot, request)?;

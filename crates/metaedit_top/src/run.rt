@@ -1,6 +1,5 @@
 // A run on the file of a depot, up to its output.
 ghost use Rattle.std.specs.Prelude.{◌≡◌, IfOk, false, string_bytes};
-ghost use Rattle.me_disk.specs.Disk.{Only, read_as};
 ghost use Rattle.metaedit_top.specs.Run.{Runs};
 ghost use Rattle.metaedit_top.specs.Stage.{Acts, IsSettled, counted};
 ghost use Rattle.metaedit_top.specs.Told.{no_edit, recovered_line, was_redone};
@@ -55,7 +54,7 @@ fn tell_recovery(alloc: Global, redone: bool) -> Result<Finished, NoMemory>
     })
 }
 
-// Does what is asked for with a file that stands alone, beside which a journal stood or not.
+// Does what is asked for with a file that is settled, beside which a journal stood or not.
 fn act<D: Depot>(
     alloc: Global,
     depot: &mut D,
@@ -95,7 +94,6 @@ pub(crate) fn run<D: Depot>(
     request: &Request,
 ) -> Result<Finished, Stop>
     requires there { makes_file request.now.command ≡ false }
-    requires one { Only (read_as (D.disk depot.old).slots) (D.disk depot.old) }
     ensures { Runs request.now (D.disk depot.old) (D.disk depot.new) result }
 {
     let before = depot.faults();

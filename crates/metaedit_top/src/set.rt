@@ -1,4 +1,4 @@
-// The edit that is asked for, of a file that stands alone.
+// The edit that is asked for, of a file that is settled.
 ghost use Rattle.std.specs.Prelude.{◌≡◌, Bool, ℕ, List, true, IfOk};
 ghost use Rattle.me_disk.specs.Holds.{Holds};
 ghost use Rattle.metaedit_top.specs.Asked.{edits_file};
@@ -17,7 +17,7 @@ use me_report::Summary;
 use part_tree::{Bytes, NoMemory, RuleSet, Shows};
 use std::alloc::Global;
 
-/// Makes ready what is needed for the edit of a file that stands alone, where the file is supported and the edit breaks
+/// Makes ready what is needed for the edit of a file that is settled, where the file is supported and the edit breaks
 /// none of the rules. The file is only read, and from here on an edit takes no memory.
 pub(crate) fn prepare<D: Depot>(
     alloc: Global,
@@ -63,7 +63,7 @@ fn in_front(alloc: Global, front: &[u8], prepared: Prepared) -> Result<Prepared,
     Ok(Prepared { finished, swap })
 }
 
-/// Edits a file that stands alone, where it is supported and the edit breaks none of the rules. Its line is told behind
+/// Edits a file that is settled, where it is supported and the edit breaks none of the rules. Its line is told behind
 /// a text.
 pub(crate) fn set<D: Depot>(
     alloc: Global,

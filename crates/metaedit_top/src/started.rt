@@ -25,17 +25,27 @@ pub enum StartFault {
 }
 
 impl From<NoMemory> for StartFault {
+    ghost use Rattle.std.specs.Prelude.{◌≡◌};
+    ghost use Rattle.metaedit_top.specs.declared.started.StartFault.TheVariants.{Memory};
+
+    ghost from_gives = { λ _ e. e ≡ Memory };
+
     fn from(_: NoMemory) -> StartFault {
         StartFault::Memory
     }
 }
 
 impl From<Error> for StartFault {
+    ghost use Rattle.std.specs.Prelude.{◌≡◌};
+    ghost use Rattle.std.specs.IoError.{error_kind};
+    ghost use Rattle.metaedit_top.specs.Started.{fault_of};
+
+    ghost from_gives = { λ fault e. e ≡ fault_of (error_kind fault) };
+
     fn from(fault: Error) -> StartFault {
-        if fault.kind() == ErrorKind::OutOfMemory {
-            StartFault::Memory
-        } else {
-            StartFault::NoWords
+        match fault.kind() {
+            ErrorKind::OutOfMemory => StartFault::Memory,
+            _ => StartFault::NoWords,
         }
     }
 }

@@ -1,4 +1,4 @@
-// What is told of a file that stands alone, and that is only read.
+// What is told of a file that is settled, and that is only read.
 ghost use Rattle.std.specs.Prelude.{◌≡◌, ◌+◌, ◌<◌, ◌^◌, Bool, length, Some, None, IfOk, IfSome};
 ghost use Rattle.me_disk.specs.Holds.{Inside};
 ghost use Rattle.me_disk.specs.Steps.{HasCause, ReadsOnly};
@@ -88,7 +88,9 @@ fn tell_checksums(
     Ok(Finished { summary, text })
 }
 
-/// Tells the checksums of a file's sound: those that it stores, and the computed one, where the file is supported.
+/// Tells the checksums of a file's sound: those that it stores, and the computed one, where the file is supported. It has a
+/// block of the sound on its stack, which other commands needn't have on theirs.
+#[inline(never)]
 pub(crate) fn md5<D: Depot>(
     alloc: Global,
     depot: &mut D,

@@ -1,11 +1,12 @@
 // The top call.
 ghost use Rattle.std.specs.Prelude.{◌≡◌, ◌⊎◌, ℕ, Bool, true, false, Err, IsTrue, IsSome};
 ghost use Rattle.me_disk.specs.Causes.{Rose};
-ghost use Rattle.me_disk.specs.Disk.{Image, Only, read_as};
+ghost use Rattle.me_disk.specs.Disk.{Image, read_as};
 ghost use Rattle.me_disk.specs.Steps.{ReadsOnly};
 ghost use Rattle.edit_journal.specs.Settled.{IsDamaged};
 ghost use Rattle.me_report.specs.declared.line.Summary.{Summary};
 ghost use Rattle.metaedit_top.specs.Answered.{AcceptsWords, AsksToMake, Because, Ends, EndsUnprinted, Finishes, FixesBy, IsOneAgain, MayStandOf, TakesTable, is_before_device, printed};
+ghost use Rattle.metaedit_top.specs.Run.{OneImage};
 ghost use Rattle.metaedit_top.specs.Tables.{reads_table};
 ghost use Rattle.metaedit_top.specs.Words.{request};
 ghost use Rattle.metaedit_top.specs.declared.outcome.Stop.TheVariants as stop;
@@ -23,7 +24,10 @@ use std::alloc::Global;
 
 /// Does all that the program does: reads the words and the table of an edit, settles the file that the depot holds after a
 /// crash or makes one, does with it what the words ask for, and prints the report. The words are those behind the program's name.
-/// Before it a crash leaves what the depot reads as, and nothing else.
+///
+/// What is said of the file, of causes, of counts and of the bytes that are written holds on every depot; what is said of
+/// a crash, where what the depot reads as was its one image at entry. There `done` and `one_again` say together that a crash
+/// behind the run leaves the new file alone.
 pub fn metaedit<D: Depot, S: Source, K: Sink>(
     alloc: Global,
     words: &[Word],
@@ -31,9 +35,8 @@ pub fn metaedit<D: Depot, S: Source, K: Sink>(
     table: &mut S,
     out: &mut K,
 ) -> Outcome
-    requires one { Only (read_as (D.disk depot.old).slots) (D.disk depot.old) }
-
-    // Done: the new file stands alone, it is the old one edited, so many bytes were written, and the report is printed.
+    // Done: the new file stands there, with no journal beside it; it is the old one edited, so many bytes were written,
+    // and the report is printed.
     ensures done { (s : Summary) → result ≡ Outcome.Done s
         → Ends words.now (S.left table.old) (D.disk depot.old) (D.disk depot.new) (K.contents out.old)
         (K.contents out.new) s }
@@ -41,9 +44,9 @@ pub fn metaedit<D: Depot, S: Source, K: Sink>(
     ensures fixes { (s : Summary) → result ≡ Outcome.Done s → FixesBy words.now s }
 
     // A crash at any moment since entry leaves what stands for the same as what stood there, or for the new file.
-    ensures any_moment { (i : Image) → (D.disk depot.new).since (D.disk depot.old).clock i
+    ensures any_moment { OneImage (D.disk depot.old) → (i : Image) → (D.disk depot.new).since (D.disk depot.old).clock i
         → MayStandOf words.now (S.left table.old) (D.disk depot.old) i }
-    ensures one_again { IsOneAgain result (D.disk depot.new) }
+    ensures one_again { OneImage (D.disk depot.old) → IsOneAgain result (D.disk depot.new) }
     ensures damaged { IsTrue (D.disk depot.old).tells → IsDamaged (read_as (D.disk depot.old).slots)
         → ReadsOnly (D.disk depot.old) (D.disk depot.new) }
     ensures there { AsksToMake words.now → IsTrue (D.disk depot.old).tells → IsSome (D.disk depot.old).slots.main

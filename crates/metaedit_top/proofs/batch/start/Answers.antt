@@ -5,9 +5,9 @@ use Rattle.metaedit_top.proofs.BatchEnds.{files_counted}
 use Rattle.metaedit_top.proofs.Starts.{all_stay, starts_by}
 use Rattle.metaedit_top.proofs.batch.start.Goals as goal
 
-pub start_files-requires-clause-depots : goal.start_files-requires-clause-depots
-start_files-requires-clause-depots g c =
-    c.requires.form.2 ∙ sym (files_counted c.args.words.now (batch_in c.in-Some.field-0) c.requires.form.0 c.requires.form.1 c.in-Some.ensures)
+pub start_files-requires : goal.start_files-requires
+start_files-requires g c =
+    c.requires.2 ∙ sym (files_counted c.args.words.now (batch_in c.in-Some.field-0) c.requires.0 c.requires.1 c.in-Some.ensures)
 
 pub returns-clause-starts : goal.returns-clause-starts
 returns-clause-starts g c =

@@ -9,31 +9,31 @@ use Rattle.metaedit_top.proofs.batch.start_files.Goals as goal
 
 pub returns-in_err-end-clause-stays : goal.returns-in_err-end-clause-stays
 returns-in_err-end-clause-stays g c =
-    let low : c.loop-i.i < length c.args.depots.now = let n = c.requires.depots in let t = c.loop-i-test.true in omega (arith, n, t) in
+    let low : c.loop-i.i < length c.args.depots.now = let n = c.requires in let t = c.loop-i-test.true in omega (arith, n, t) in
     on_err c.from_residual-in_err-end.result _ (stays_more g.D.Depot.disk c.args.edit.now c.args.files.now c.loop-i.i c.args.depots.now c.loop-i.depots c.loop-i.ends.items c.loop-i.swaps.items c.loop-i.invariant.front
     c.start_at.new.depots c.start_at.ensures.others low c.start_at.ensures.stays)
 
 pub returns-in_err-push-clause-stays : goal.returns-in_err-push-clause-stays
 returns-in_err-push-clause-stays g c =
-    let low : c.loop-i.i < length c.args.depots.now = let n = c.requires.depots in let t = c.loop-i-test.true in omega (arith, n, t) in
+    let low : c.loop-i.i < length c.args.depots.now = let n = c.requires in let t = c.loop-i-test.true in omega (arith, n, t) in
     on_err c.from_residual-in_err-push.result _ (stays_more g.D.Depot.disk c.args.edit.now c.args.files.now c.loop-i.i c.args.depots.now c.loop-i.depots c.loop-i.ends.items c.loop-i.swaps.items c.loop-i.invariant.front
     c.start_at.new.depots c.start_at.ensures.others low c.start_at.ensures.stays)
 
 pub returns-in_err-push-2-clause-stays : goal.returns-in_err-push-2-clause-stays
 returns-in_err-push-2-clause-stays g c =
-    let low : c.loop-i.i < length c.args.depots.now = let n = c.requires.depots in let t = c.loop-i-test.true in omega (arith, n, t) in
+    let low : c.loop-i.i < length c.args.depots.now = let n = c.requires in let t = c.loop-i-test.true in omega (arith, n, t) in
     on_err c.from_residual-in_err-push-2.result _ (stays_more g.D.Depot.disk c.args.edit.now c.args.files.now c.loop-i.i c.args.depots.now c.loop-i.depots c.loop-i.ends.items c.loop-i.swaps.items c.loop-i.invariant.front
     c.start_at.new.depots c.start_at.ensures.others low c.start_at.ensures.stays)
 
 pub returns-in_err-push-3-clause-stays : goal.returns-in_err-push-3-clause-stays
 returns-in_err-push-3-clause-stays g c =
-    let low : c.loop-i.i < length c.args.depots.now = let n = c.requires.depots in let t = c.loop-i-test.true in omega (arith, n, t) in
+    let low : c.loop-i.i < length c.args.depots.now = let n = c.requires in let t = c.loop-i-test.true in omega (arith, n, t) in
     on_err c.from_residual-in_err-push-3.result _ (stays_more g.D.Depot.disk c.args.edit.now c.args.files.now c.loop-i.i c.args.depots.now c.loop-i.depots c.loop-i.ends.items c.loop-i.swaps.items c.loop-i.invariant.front
     c.start_at.new.depots c.start_at.ensures.others low c.start_at.ensures.stays)
 
 pub returns-in_err-push-4-clause-stays : goal.returns-in_err-push-4-clause-stays
 returns-in_err-push-4-clause-stays g c =
-    let low : c.loop-i.i < length c.args.depots.now = let n = c.requires.depots in let t = c.loop-i-test.true in omega (arith, n, t) in
+    let low : c.loop-i.i < length c.args.depots.now = let n = c.requires in let t = c.loop-i-test.true in omega (arith, n, t) in
     on_err c.from_residual-in_err-push-4.result _ (stays_more g.D.Depot.disk c.args.edit.now c.args.files.now c.loop-i.i c.args.depots.now c.loop-i.depots c.loop-i.ends.items c.loop-i.swaps.items c.loop-i.invariant.front
     c.start_at.new.depots c.start_at.ensures.others low c.start_at.ensures.stays)
 
@@ -47,7 +47,7 @@ loop-i-preserved g c =
     let w = c.index-files-i.result in
     let s = c.in_ok-end.field-0 in
     let h = c.in_ok-end.ensures in
-    let low : k < length before = let n = c.requires.depots in let t = c.loop-i-test.true in omega (arith, n, t) in
+    let low : k < length before = let n = c.requires in let t = c.loop-i-test.true in omega (arith, n, t) in
     let ends_are : c.push.new.items.items ≡ c.loop-i.ends.items ++ s.end ∷ [] = c.in_ok-push.ensures in
     let left_is : c.push-in-loop-i.new.items.items ≡ c.loop-i.left.items ++ None ∷ [] = c.in_ok-push-2.ensures in
     let texts_are : c.push-in-loop-i-2.new.items.items ≡ c.loop-i.texts.items ++ s.texts ∷ [] = c.in_ok-push-3.ensures in
@@ -66,7 +66,7 @@ pub new-requires : goal.new-requires
 new-requires g c =
     let all : c.loop-i.i ≡ length c.args.files.now = let t = c.loop-i-test.false in let most = c.loop-i.auto.i-end in omega arith in
     fresh_all g.D.Depot.disk c.args.edit.now c.args.files.now c.args.depots.now c.loop-i.depots c.loop-i.ends.items c.loop-i.swaps.items
-    (front_all g.D.Depot.disk c.args.edit.now c.args.files.now c.args.depots.now c.loop-i.depots c.loop-i.ends.items c.loop-i.swaps.items c.loop-i.i all c.loop-i.invariant.front) c.requires.depots
+    (front_all g.D.Depot.disk c.args.edit.now c.args.files.now c.args.depots.now c.loop-i.depots c.loop-i.ends.items c.loop-i.swaps.items c.loop-i.i all c.loop-i.invariant.front) c.requires
 
 pub returns-in_err-batch-clause-stays : goal.returns-in_err-batch-clause-stays
 returns-in_err-batch-clause-stays g c =

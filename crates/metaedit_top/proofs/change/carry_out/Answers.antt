@@ -12,6 +12,6 @@ run-requires g c κs within =
     let fresh : IsFresh c.in-Some.swap = subst (λ (x : Option Swapping). OnSwap x IsFresh) c.in-Some.is c.requires.fresh in (
       within,
       subst (λ (s : Swapping). Underway s (bytes_of d.slots.main) d) (sym fresh.unmade)
-          (begins d c.in-Some.swap.plan (bytes_of d.slots.main) c.requires.alone
+          (begins d c.in-Some.swap.plan (bytes_of d.slots.main) c.requires.stands
           (λ tells. subst (λ (x : Option Swapping). OnSwap x (λ s. Belongs s.plan (bytes_of d.slots.main))) c.in-Some.is (c.requires.belongs tells))),
     )

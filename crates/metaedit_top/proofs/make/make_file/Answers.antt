@@ -16,7 +16,7 @@ returns-in_err-find_none g c =
     let s = c.in_err-find_none.field-0.0 in
     let same : c.from_residual.result ≡ Err s = search rules in
     let h = c.in_err-find_none.ensures in
-    subst (MakesFile q a b) (sym same) (not_begun q a b (g.met.D.Depot.lawful c.args.depot.now) h.reads c.requires.one s s refl h.stops h.leaves)
+    subst (MakesFile q a b) (sym same) (not_begun q a b (g.met.D.Depot.lawful c.args.depot.now) h.reads s s refl h.stops h.leaves)
 
 pub make-requires-clause-absent : goal.make-requires-clause-absent
 make-requires-clause-absent g c = λ tells.
@@ -33,7 +33,7 @@ returns-in_err-len g c =
     let same : c.from_residual-in_err-len.result ≡ Err (stop_of_make fault) = search rules in
     let h = c.in_ok-find_none.ensures in
     subst (MakesFile q a d) (sym same)
-    (not_made q c.requires.makes (stated_bytes q.kind q.n c.requires.number) a b (g.met.D.Depot.lawful c.args.depot.now) (g.met.D.Depot.lawful c.find_none.new.depot) h.reads c.requires.one h.clear
+    (not_made q c.requires.makes (stated_bytes q.kind q.n c.requires.number) a b (g.met.D.Depot.lawful c.args.depot.now) h.reads h.clear
     d (g.met.D.Depot.lawful c.make.new.depot) (Err fault) c.in_err-len.ensures fault (stop_of_make fault) refl refl)
 
 pub returns-in_err-line : goal.returns-in_err-line
@@ -47,8 +47,8 @@ returns-in_err-line g c =
     let h = c.in_ok-find_none.ensures in
     let m = c.in_ok-len.ensures in
     subst (MakesFile q a d) (sym same)
-    (edited q c.requires.makes (stated_bytes q.kind q.n c.requires.number) a b (g.met.D.Depot.lawful c.args.depot.now) (g.met.D.Depot.lawful c.find_none.new.depot) h.reads c.requires.one h.clear
-    d lawful _ m m.stands m.exact d lawful (Err stop.Memory) (no_memory q _ d d (ReadsOnly-refl d) stop.Memory refl))
+    (edited q c.requires.makes (stated_bytes q.kind q.n c.requires.number) a b (g.met.D.Depot.lawful c.args.depot.now) h.reads h.clear
+    d lawful _ m m.stands m.exact d (Err stop.Memory) (no_memory q _ d d (ReadsOnly-refl d) stop.Memory refl))
 
 pub set-requires-clause-command : goal.set-requires-clause-command
 set-requires-clause-command g c = makes_edits c.args.request.now c.requires.makes
@@ -70,7 +70,7 @@ set-requires-clause-settled g c =
     let d = g.D.Depot.disk c.make.new.depot in
     let h = c.in_ok-find_none.ensures in
     let m = c.in_ok-len.ensures in
-    settled_c q c.requires.makes (stated_bytes q.kind q.n c.requires.number) a b (g.met.D.Depot.lawful c.args.depot.now) (g.met.D.Depot.lawful c.find_none.new.depot) h.reads c.requires.one h.clear
+    settled_c q c.requires.makes (stated_bytes q.kind q.n c.requires.number) a b (g.met.D.Depot.lawful c.args.depot.now) h.reads h.clear
     d (g.met.D.Depot.lawful c.make.new.depot) _ m m.stands m.exact
 
 pub returns : goal.returns
@@ -81,5 +81,5 @@ returns g c =
     let d = g.D.Depot.disk c.make.new.depot in
     let h = c.in_ok-find_none.ensures in
     let m = c.in_ok-len.ensures in
-    edited q c.requires.makes (stated_bytes q.kind q.n c.requires.number) a b (g.met.D.Depot.lawful c.args.depot.now) (g.met.D.Depot.lawful c.find_none.new.depot) h.reads c.requires.one h.clear
-    d (g.met.D.Depot.lawful c.make.new.depot) _ m m.stands m.exact (g.D.Depot.disk c.set.new.depot) (g.met.D.Depot.lawful c.set.new.depot) c.set.result (c.set.ensures _)
+    edited q c.requires.makes (stated_bytes q.kind q.n c.requires.number) a b (g.met.D.Depot.lawful c.args.depot.now) h.reads h.clear
+    d (g.met.D.Depot.lawful c.make.new.depot) _ m m.stands m.exact (g.D.Depot.disk c.set.new.depot) c.set.result (c.set.ensures _)

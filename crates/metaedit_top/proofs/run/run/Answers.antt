@@ -12,7 +12,7 @@ returns-in_err-recovered g c =
     let h = c.in_err-recovered.ensures in
     let same : c.from_residual.result ≡ Err (stop_of_recovery fault) = search rules in
     subst (Runs c.args.request.now a b) (sym same)
-    (ran_refused c.args.request.now a b fault (stop_of_recovery fault) refl h.no_file h.damaged h.cause h.refusal h.written h.broken (h.since c.requires.one) (h.crash c.requires.one) c.requires.one)
+    (ran_refused c.args.request.now a b fault (stop_of_recovery fault) refl h.no_file h.damaged h.cause h.refusal h.written h.broken h.since h.tells h.later)
 
 pub returns-in-Ok : goal.returns-in-Ok
 returns-in-Ok g c =
@@ -20,8 +20,8 @@ returns-in-Ok g c =
     let b = g.D.Depot.disk c.recover.new.depot in
     let d = g.D.Depot.disk c.act.new.depot in
     let r = c.in_ok-recovered.ensures in
-    ran_done c.args.request.now a b d r.done c.requires.one (r.crash c.requires.one) (wrote_exact a b c.in_ok-recovered.recovered r.written) c.is_redone.result c.in-Ok.finished
-    (λ tells. c.is_redone.ensures ∙ stood a c.in_ok-recovered.recovered tells r.nothing r.redone) (r.since c.requires.one) c.in-Ok.ensures
+    ran_done c.args.request.now a b d r.done r.tells r.later r.crash (wrote_exact a b c.in_ok-recovered.recovered r.written) c.is_redone.result c.in-Ok.finished
+    (λ tells. c.is_redone.ensures ∙ stood a c.in_ok-recovered.recovered tells r.nothing r.redone) (g.met.D.Depot.lawful c.recover.new.depot) r.since c.in-Ok.ensures
 
 pub returns-in-Err : goal.returns-in-Err
 returns-in-Err g c =
@@ -30,6 +30,6 @@ returns-in-Err g c =
     let d = g.D.Depot.disk c.act.new.depot in
     let r = c.in_ok-recovered.ensures in
     let stop = c.in-Err.stop in
-    ran_stopped c.args.request.now a b d r.done c.requires.one (r.crash c.requires.one) (wrote_exact a b c.in_ok-recovered.recovered r.written) c.is_redone.result stop c.counted_stop.result
+    ran_stopped c.args.request.now a b d r.done r.tells r.later r.crash (wrote_exact a b c.in_ok-recovered.recovered r.written) c.is_redone.result stop c.counted_stop.result
     (c.counted_stop.ensures ∙ ap (λ n. counted n c.faults.result stop) c.faults-before.ensures ∙ ap (λ n. counted a.faults n stop) c.faults.ensures)
-    (g.met.D.Depot.lawful c.act.new.depot) (r.since c.requires.one) c.in-Err.ensures
+    (g.met.D.Depot.lawful c.recover.new.depot) r.since c.in-Err.ensures

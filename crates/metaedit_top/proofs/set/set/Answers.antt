@@ -32,8 +32,8 @@ pub carry_out-requires-clause-fresh : goal.carry_out-requires-clause-fresh
 carry_out-requires-clause-fresh g c =
     subst (λ (x : Prepared). OnSwap x.swap IsFresh) (sym c.in_ok-told.ensures) c.in_ok-prepared.ensures.fresh
 
-pub carry_out-requires-clause-alone : goal.carry_out-requires-clause-alone
-carry_out-requires-clause-alone g c = settled_on (g.D.Depot.disk c.args.depot.now) (g.D.Depot.disk c.prepare.new.depot) c.requires.settled c.in_ok-prepared.ensures.reads
+pub carry_out-requires-clause-stands : goal.carry_out-requires-clause-stands
+carry_out-requires-clause-stands g c = settled_on (g.D.Depot.disk c.args.depot.now) (g.D.Depot.disk c.prepare.new.depot) c.requires.settled c.in_ok-prepared.ensures.reads
 
 pub carry_out-requires-clause-belongs : goal.carry_out-requires-clause-belongs
 carry_out-requires-clause-belongs g c = λ tells.
@@ -48,6 +48,6 @@ returns g c = λ stood.
     let a = g.D.Depot.disk c.args.depot.now in
     let b = g.D.Depot.disk c.prepare.new.depot in
     let d = g.D.Depot.disk c.carry_out.new.depot in
-    carried q c.requires.command c.args.front.now stood a b c.requires.front d (g.met.D.Depot.lawful c.carry_out.new.depot) c.requires.settled
+    carried q c.requires.command c.args.front.now stood a b c.requires.front d (g.met.D.Depot.lawful c.prepare.new.depot) (g.met.D.Depot.lawful c.carry_out.new.depot) c.requires.settled
     c.in_ok-prepared.prepared c.in_ok-prepared.ensures c.carry_out.result
     (subst (λ (x : Prepared). CarriedBy x.swap x.finished (bytes_of b.slots.main) b d c.carry_out.result) c.in_ok-told.ensures c.carry_out.ensures)

@@ -14,11 +14,13 @@ use Rattle.metaedit_top.specs.declared.words.RequestFault.{RequestFault}
 use Rattle.metaedit_top.proofs.Tops.{asked_for, because, carried_number, done_by, faulted_by, fixed_by, makes_it, may_by, never, never_refused, no_memory_for_table, no_words, not_read, same_broken, same_done, same_fault, same_large, same_place, same_why, table_refused, table_taken, takes_it, told_count}
 use Rattle.metaedit_top.proofs.top.metaedit.Goals as goal
 
-pub carry-requires-clause-number : goal.carry-requires-clause-number
-carry-requires-clause-number g c =
+pub carry-requires : goal.carry-requires
+carry-requires g c =
     let words = c.args.words.now in
     let left = g.S.Source.left c.args.table.now in
-    carried_number words left c.in-Ok.asked c.in-Ok-with_edit.request c.in-Ok.ensures c.in-Ok-with_edit.ensures.runs
+    record {
+      number = carried_number words left c.in-Ok.asked c.in-Ok-with_edit.request c.in-Ok.ensures c.in-Ok-with_edit.ensures.runs;
+    }
 
 pub returns-in-Ok-write_all-clause-done : goal.returns-in-Ok-write_all-clause-done
 returns-in-Ok-write_all-clause-done g c = λ s is.
@@ -63,7 +65,7 @@ returns-in-Ok-carry-clause-out_fault g c = λ edited is.
     )
 
 pub returns-in-Ok-write_all-clause-any_moment : goal.returns-in-Ok-write_all-clause-any_moment
-returns-in-Ok-write_all-clause-any_moment g c = λ i h.
+returns-in-Ok-write_all-clause-any_moment g c = λ one i h.
     let words = c.args.words.now in
     let left = g.S.Source.left c.args.table.now in
     let after = g.S.Source.left c.with_edit.new.table in
@@ -71,7 +73,7 @@ returns-in-Ok-write_all-clause-any_moment g c = λ i h.
     let b = g.D.Depot.disk c.carry.new.depot in
     let q = c.in-Ok-with_edit.request in
     let asks = asked_for words left c.in-Ok.asked q c.in-Ok.ensures c.in-Ok-with_edit.ensures.runs in
-    may_by words left q a i asks (c.in-Ok-carry.ensures.crash i h)
+    may_by words left q a i asks (c.in-Ok-carry.ensures.crash one i h)
 
 pub returns-in-Ok-write_all-clause-there : goal.returns-in-Ok-write_all-clause-there
 returns-in-Ok-write_all-clause-there g c = λ make.
@@ -107,7 +109,7 @@ returns-in-Ok-write_all-clause-unread g c = λ reads.
     c.in-Ok-with_edit.ensures.unread (takes_it words c.in-Ok.asked false c.in-Ok.ensures reads)
 
 pub returns-in-Ok-carry-clause-any_moment : goal.returns-in-Ok-carry-clause-any_moment
-returns-in-Ok-carry-clause-any_moment g c = λ i h.
+returns-in-Ok-carry-clause-any_moment g c = λ one i h.
     let words = c.args.words.now in
     let left = g.S.Source.left c.args.table.now in
     let after = g.S.Source.left c.with_edit.new.table in
@@ -115,7 +117,7 @@ returns-in-Ok-carry-clause-any_moment g c = λ i h.
     let b = g.D.Depot.disk c.carry.new.depot in
     let q = c.in-Ok-with_edit.request in
     let asks = asked_for words left c.in-Ok.asked q c.in-Ok.ensures c.in-Ok-with_edit.ensures.runs in
-    may_by words left q a i asks (c.in-Ok-carry.ensures.crash i h)
+    may_by words left q a i asks (c.in-Ok-carry.ensures.crash one i h)
 
 pub returns-in-Ok-carry-clause-there : goal.returns-in-Ok-carry-clause-there
 returns-in-Ok-carry-clause-there g c = λ make.
@@ -151,7 +153,7 @@ returns-in-Ok-carry-clause-unread g c = λ reads.
     c.in-Ok-with_edit.ensures.unread (takes_it words c.in-Ok.asked false c.in-Ok.ensures reads)
 
 pub returns-in-Err-Depot-clause-any_moment : goal.returns-in-Err-Depot-clause-any_moment
-returns-in-Err-Depot-clause-any_moment g c = λ i h.
+returns-in-Err-Depot-clause-any_moment g c = λ one i h.
     let words = c.args.words.now in
     let left = g.S.Source.left c.args.table.now in
     let after = g.S.Source.left c.with_edit.new.table in
@@ -159,7 +161,7 @@ returns-in-Err-Depot-clause-any_moment g c = λ i h.
     let b = g.D.Depot.disk c.carry.new.depot in
     let q = c.in-Ok-with_edit.request in
     let asks = asked_for words left c.in-Ok.asked q c.in-Ok.ensures c.in-Ok-with_edit.ensures.runs in
-    may_by words left q a i asks (c.in-Err-Depot.ensures.crash i h)
+    may_by words left q a i asks (c.in-Err-Depot.ensures.crash one i h)
 
 pub returns-in-Err-Depot-clause-there : goal.returns-in-Err-Depot-clause-there
 returns-in-Err-Depot-clause-there g c = λ make.
@@ -195,7 +197,7 @@ returns-in-Err-Depot-clause-unread g c = λ reads.
     c.in-Ok-with_edit.ensures.unread (takes_it words c.in-Ok.asked false c.in-Ok.ensures reads)
 
 pub returns-in-Err-NoFile-clause-any_moment : goal.returns-in-Err-NoFile-clause-any_moment
-returns-in-Err-NoFile-clause-any_moment g c = λ i h.
+returns-in-Err-NoFile-clause-any_moment g c = λ one i h.
     let words = c.args.words.now in
     let left = g.S.Source.left c.args.table.now in
     let after = g.S.Source.left c.with_edit.new.table in
@@ -203,7 +205,7 @@ returns-in-Err-NoFile-clause-any_moment g c = λ i h.
     let b = g.D.Depot.disk c.carry.new.depot in
     let q = c.in-Ok-with_edit.request in
     let asks = asked_for words left c.in-Ok.asked q c.in-Ok.ensures c.in-Ok-with_edit.ensures.runs in
-    may_by words left q a i asks (c.in-Err-NoFile.ensures.crash i h)
+    may_by words left q a i asks (c.in-Err-NoFile.ensures.crash one i h)
 
 pub returns-in-Err-NoFile-clause-there : goal.returns-in-Err-NoFile-clause-there
 returns-in-Err-NoFile-clause-there g c = λ make.
@@ -239,7 +241,7 @@ returns-in-Err-NoFile-clause-unread g c = λ reads.
     c.in-Ok-with_edit.ensures.unread (takes_it words c.in-Ok.asked false c.in-Ok.ensures reads)
 
 pub returns-in-Err-FileThere-clause-any_moment : goal.returns-in-Err-FileThere-clause-any_moment
-returns-in-Err-FileThere-clause-any_moment g c = λ i h.
+returns-in-Err-FileThere-clause-any_moment g c = λ one i h.
     let words = c.args.words.now in
     let left = g.S.Source.left c.args.table.now in
     let after = g.S.Source.left c.with_edit.new.table in
@@ -247,7 +249,7 @@ returns-in-Err-FileThere-clause-any_moment g c = λ i h.
     let b = g.D.Depot.disk c.carry.new.depot in
     let q = c.in-Ok-with_edit.request in
     let asks = asked_for words left c.in-Ok.asked q c.in-Ok.ensures c.in-Ok-with_edit.ensures.runs in
-    may_by words left q a i asks (c.in-Err-FileThere.ensures.crash i h)
+    may_by words left q a i asks (c.in-Err-FileThere.ensures.crash one i h)
 
 pub returns-in-Err-FileThere-clause-there : goal.returns-in-Err-FileThere-clause-there
 returns-in-Err-FileThere-clause-there g c = λ make.
@@ -283,7 +285,7 @@ returns-in-Err-FileThere-clause-unread g c = λ reads.
     c.in-Ok-with_edit.ensures.unread (takes_it words c.in-Ok.asked false c.in-Ok.ensures reads)
 
 pub returns-in-Err-Damaged-clause-any_moment : goal.returns-in-Err-Damaged-clause-any_moment
-returns-in-Err-Damaged-clause-any_moment g c = λ i h.
+returns-in-Err-Damaged-clause-any_moment g c = λ one i h.
     let words = c.args.words.now in
     let left = g.S.Source.left c.args.table.now in
     let after = g.S.Source.left c.with_edit.new.table in
@@ -291,7 +293,7 @@ returns-in-Err-Damaged-clause-any_moment g c = λ i h.
     let b = g.D.Depot.disk c.carry.new.depot in
     let q = c.in-Ok-with_edit.request in
     let asks = asked_for words left c.in-Ok.asked q c.in-Ok.ensures c.in-Ok-with_edit.ensures.runs in
-    may_by words left q a i asks (c.in-Err-Damaged.ensures.crash i h)
+    may_by words left q a i asks (c.in-Err-Damaged.ensures.crash one i h)
 
 pub returns-in-Err-Damaged-clause-there : goal.returns-in-Err-Damaged-clause-there
 returns-in-Err-Damaged-clause-there g c = λ make.
@@ -327,7 +329,7 @@ returns-in-Err-Damaged-clause-unread g c = λ reads.
     c.in-Ok-with_edit.ensures.unread (takes_it words c.in-Ok.asked false c.in-Ok.ensures reads)
 
 pub returns-in-Err-NotSupported-clause-any_moment : goal.returns-in-Err-NotSupported-clause-any_moment
-returns-in-Err-NotSupported-clause-any_moment g c = λ i h.
+returns-in-Err-NotSupported-clause-any_moment g c = λ one i h.
     let words = c.args.words.now in
     let left = g.S.Source.left c.args.table.now in
     let after = g.S.Source.left c.with_edit.new.table in
@@ -335,7 +337,7 @@ returns-in-Err-NotSupported-clause-any_moment g c = λ i h.
     let b = g.D.Depot.disk c.carry.new.depot in
     let q = c.in-Ok-with_edit.request in
     let asks = asked_for words left c.in-Ok.asked q c.in-Ok.ensures c.in-Ok-with_edit.ensures.runs in
-    may_by words left q a i asks (c.in-Err-NotSupported.ensures.crash i h)
+    may_by words left q a i asks (c.in-Err-NotSupported.ensures.crash one i h)
 
 pub returns-in-Err-NotSupported-clause-there : goal.returns-in-Err-NotSupported-clause-there
 returns-in-Err-NotSupported-clause-there g c = λ make.
@@ -371,7 +373,7 @@ returns-in-Err-NotSupported-clause-unread g c = λ reads.
     c.in-Ok-with_edit.ensures.unread (takes_it words c.in-Ok.asked false c.in-Ok.ensures reads)
 
 pub returns-in-Err-RuleBroken-clause-any_moment : goal.returns-in-Err-RuleBroken-clause-any_moment
-returns-in-Err-RuleBroken-clause-any_moment g c = λ i h.
+returns-in-Err-RuleBroken-clause-any_moment g c = λ one i h.
     let words = c.args.words.now in
     let left = g.S.Source.left c.args.table.now in
     let after = g.S.Source.left c.with_edit.new.table in
@@ -379,7 +381,7 @@ returns-in-Err-RuleBroken-clause-any_moment g c = λ i h.
     let b = g.D.Depot.disk c.carry.new.depot in
     let q = c.in-Ok-with_edit.request in
     let asks = asked_for words left c.in-Ok.asked q c.in-Ok.ensures c.in-Ok-with_edit.ensures.runs in
-    may_by words left q a i asks (c.in-Err-RuleBroken.ensures.crash i h)
+    may_by words left q a i asks (c.in-Err-RuleBroken.ensures.crash one i h)
 
 pub returns-in-Err-RuleBroken-clause-there : goal.returns-in-Err-RuleBroken-clause-there
 returns-in-Err-RuleBroken-clause-there g c = λ make.
@@ -415,7 +417,7 @@ returns-in-Err-RuleBroken-clause-unread g c = λ reads.
     c.in-Ok-with_edit.ensures.unread (takes_it words c.in-Ok.asked false c.in-Ok.ensures reads)
 
 pub returns-in-Err-TooLarge-clause-any_moment : goal.returns-in-Err-TooLarge-clause-any_moment
-returns-in-Err-TooLarge-clause-any_moment g c = λ i h.
+returns-in-Err-TooLarge-clause-any_moment g c = λ one i h.
     let words = c.args.words.now in
     let left = g.S.Source.left c.args.table.now in
     let after = g.S.Source.left c.with_edit.new.table in
@@ -423,7 +425,7 @@ returns-in-Err-TooLarge-clause-any_moment g c = λ i h.
     let b = g.D.Depot.disk c.carry.new.depot in
     let q = c.in-Ok-with_edit.request in
     let asks = asked_for words left c.in-Ok.asked q c.in-Ok.ensures c.in-Ok-with_edit.ensures.runs in
-    may_by words left q a i asks (c.in-Err-TooLarge.ensures.crash i h)
+    may_by words left q a i asks (c.in-Err-TooLarge.ensures.crash one i h)
 
 pub returns-in-Err-TooLarge-clause-there : goal.returns-in-Err-TooLarge-clause-there
 returns-in-Err-TooLarge-clause-there g c = λ make.
@@ -459,7 +461,7 @@ returns-in-Err-TooLarge-clause-unread g c = λ reads.
     c.in-Ok-with_edit.ensures.unread (takes_it words c.in-Ok.asked false c.in-Ok.ensures reads)
 
 pub returns-clause-any_moment : goal.returns-clause-any_moment
-returns-clause-any_moment g c = λ i h.
+returns-clause-any_moment g c = λ one i h.
     let words = c.args.words.now in
     let left = g.S.Source.left c.args.table.now in
     let after = g.S.Source.left c.with_edit.new.table in
@@ -467,7 +469,7 @@ returns-clause-any_moment g c = λ i h.
     let b = g.D.Depot.disk c.carry.new.depot in
     let q = c.in-Ok-with_edit.request in
     let asks = asked_for words left c.in-Ok.asked q c.in-Ok.ensures c.in-Ok-with_edit.ensures.runs in
-    may_by words left q a i asks (c.in-Err-Memory-carry.ensures.crash i h)
+    may_by words left q a i asks (c.in-Err-Memory-carry.ensures.crash one i h)
 
 pub returns-clause-there : goal.returns-clause-there
 returns-clause-there g c = λ make.
