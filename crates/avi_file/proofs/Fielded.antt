@@ -30,7 +30,7 @@ use Rattle.avi_model.proofs.Sound.{all_right}
 use Rattle.info_list.specs.Fields.{Grows}
 use Rattle.avi_file.specs.Fields.{ListEnds, ReadsLists, behind_info, infos_of, lists_held}
 use Rattle.avi_file.specs.Map.{ReadsFields}
-use Rattle.avi_file.proofs.Homes.{AtHome, AllHome, infos_home, top_home}
+use Rattle.avi_model.proofs.Homes.{AtHome, AllHome, infos_home, top_home}
 use Rattle.avi_file.proofs.Parted.{info_parts}
 
 -- what is behind the type of a list at home

@@ -41,23 +41,16 @@ use Rattle.avi_file.specs.Names.{StreamsEnd, names_at, stream_held, streams_held
 use Rattle.avi_file.specs.Walk.{behind_type}
 use Rattle.avi_file.proofs.Fielded.{fields_here, same_lists}
 use Rattle.info_list.proofs.Grown.{FieldsLeft, added, fields_end, fields_next, grown_as, not_grown, one}
-use Rattle.avi_file.proofs.Homes.{AtHome, AllHome, drop_slice, flat_home, kids_home, top_home}
+use Rattle.avi_model.proofs.Homes.{AtHome, AllHome, kids_home, list_home, strls_home}
 
 -- ---- a stream's list at home
-
-pub strls_home : (b : List ℕ) → AllHome b (strls (avi_of b))
-strls_home b =
-    let a = avi_of b in
-    let one : AllHome b (hdrls a) = first_all (AtHome b) (only (is_type (codes "hdrl")) (top a)) (only_all (AtHome b) (is_type (codes "hdrl")) (top a) (top_home b)) in
-    only_all (AtHome b) (is_type (codes "strl")) (flat_map kids (hdrls a)) (flat_home b (hdrls a) one)
 
 -- its chunks are those that stand behind its type
 chunks_are : (b : List ℕ) (x : Stood) → AtHome b x → row b (x.at + 12) (x.at + 12 + (length x.chunk.body - 4)) ≡ list_run x.chunk
 chunks_are b x h =
     let n = length x.chunk.body in
-    let rest : drop 4 x.chunk.body ≡ slice b (x.at + 12) (n - 4) = ap (drop 4) h.body ∙ drop_slice b (x.at + 8) n 4 ∙ ap (λ (q : ℕ). slice b q (n - 4)) (omega arith) in
     let len : (x.at + 12 + (n - 4)) - (x.at + 12) ≡ n - 4 = omega arith in
-    ap (λ (m : ℕ). chunks riff_front sizes (take m (drop (x.at + 12) b))) len ∙ ap (chunks riff_front sizes) (sym rest)
+    ap (λ (m : ℕ). chunks riff_front sizes (take m (drop (x.at + 12) b))) len ∙ ap (chunks riff_front sizes) (sym (list_home b x h))
 
 -- the names among chunks at home
 bodies_are : (b : List ℕ) (at : ℕ) (cs : List Chunk) → AllHome b (stood at cs) → map (bytes_in b) (names_from at cs) ≡ map (λ (c : Chunk). c.body) (filter is_name cs)

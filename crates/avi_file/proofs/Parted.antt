@@ -27,7 +27,7 @@ use Rattle.avi_file.specs.Chosen.{is_tables, tables_with}
 use Rattle.avi_file.specs.Fields.{infos_of}
 use Rattle.avi_file.specs.Forms.{front_tests}
 use Rattle.avi_file.specs.Walk.{chosen, essence_of, is_essence, is_items}
-use Rattle.avi_file.proofs.Homes.{FirstIs, first_is, first_long}
+use Rattle.avi_model.proofs.Homes.{FirstIs, first_is, first_long}
 use Rattle.avi_file.proofs.Listed.{essence_top, essence_rest}
 use Rattle.avi_file.proofs.Placed.{chosen_append}
 

@@ -36,7 +36,8 @@ use Rattle.avi_file.specs.Map.{TellsOld, old_entries}
 use Rattle.avi_file.specs.Order.{IsNamed, bodies_in, standards_in, supers_in}
 use Rattle.avi_file.specs.Tables.{FindsIndexes, FindsOld, first_range, index_tests, olds_tests}
 use Rattle.avi_file.proofs.Held.{entries_from, header_from, kind_from, one_ends}
-use Rattle.avi_file.proofs.Homes.{AllHome, streams_home, olds_home, table_here, table_named}
+use Rattle.avi_model.proofs.Homes.{AllHome, streams_home, olds_home, table_named}
+use Rattle.avi_file.proofs.Homes.{table_here}
 use Rattle.avi_file.proofs.Left.{first_append}
 use Rattle.avi_file.proofs.Placing.{sums_placed}
 

@@ -8,12 +8,12 @@ use Rattle.field_model.specs.Kind.{SameEdit}
 use Rattle.field_model.specs.Lawful.{IsLawful}
 use Rattle.field_model.specs.Update.{effective, raw_item}
 use Rattle.container_model.specs.Tests.{first}
-use Rattle.avi_model.specs.After.{Changes, all_changes, all_fields, avi_after, changed_by, changed_file, checks_after, file_after, goes, large_after, large_by}
+use Rattle.avi_model.specs.After.{Changes, all_changes, all_fields, avi_after, changed_by, changed_file, checks_after, file_after, goes, large_after, large_by, parts_after, renumbered_avi}
 use Rattle.avi_model.specs.Avi.{avi_of}
 use Rattle.avi_model.specs.Kind.{avi_kind}
 use Rattle.avi_model.specs.RoomAfter.{patches_by, room_by}
 use Rattle.avi_model.proofs.AsKind.{all_effective}
-use Rattle.avi_model.proofs.Fit.{checks_fit}
+use Rattle.avi_model.proofs.Fit.{length_fits}
 
 -- ---- an edit without effect
 
@@ -40,7 +40,7 @@ no_larger o e small = go (checked o e small)
   where
     go : (effective (all_fields o) e ≡ []) ⊎ (first (checks_after o (all_changes o e)) ≡ None) → (effective (all_fields o) e ≡ []) ⊎ (length (file_after o e) ≤ 2 ^ 63 - 1)
     go (inl none) = inl none
-    go (inr all) = inr (checks_fit (avi_after o (all_changes o e)) (goes (avi_of o) (all_changes o e)) o (changed_file o (all_changes o e)) all).file_short
+    go (inr all) = (let c = all_changes o e in inr (length_fits (avi_after o c) (parts_after (renumbered_avi o c) c) (goes (avi_of o) c) o (changed_file o c) all))
 
 -- ---- edits that come to the same
 

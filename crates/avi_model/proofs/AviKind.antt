@@ -14,7 +14,6 @@ use Rattle.field_model.specs.Broken.{broken}
 use Rattle.field_model.specs.Kind.{Edited, IsKind, MakeInPlace}
 use Rattle.container_model.specs.Chunk.{riff}
 use Rattle.container_model.specs.Splice.{shift}
-use Rattle.container_model.specs.Stood.{Stood}
 use Rattle.container_model.specs.Units.{shut, units}
 use Rattle.carrier_model.specs.Info.{riff_fill}
 use Rattle.carrier_model.specs.RiffForm.{size_patch}
@@ -36,6 +35,7 @@ use Rattle.avi_model.proofs.JoinedFew.{kids_go, names_few, units_few}
 use Rattle.avi_model.proofs.JoinedGoes.{children}
 use Rattle.avi_model.proofs.JoinedInPlace.{joined_made, joined_sound, joined_stays}
 use Rattle.avi_model.proofs.JoinedLaid.{hdrl_small, hdrls_listed, strls_listed}
+use Rattle.avi_model.proofs.JoinedParts.{kids_both}
 use Rattle.avi_model.proofs.NamedKind.{LaidFits, laid_fits, made}
 use Rattle.avi_model.proofs.NamesExact.{names_exact}
 use Rattle.avi_model.proofs.Read.{renewed_avi}
@@ -54,10 +54,6 @@ put_one p (q ∷ qs) = go (Rattle.std.proofs.Common.ltb q.at p.at) (put_one p qs
 put_all : (ps qs : List Patch) → length (put_patches ps qs) ≡ length ps + length qs
 put_all [] qs = omega arith
 put_all (p ∷ ps) qs = omega (arith, put_one p (put_patches ps qs), put_all ps qs)
-
-kids_both : (xs ys : List Stood) → count_kids (xs ++ ys) ≡ count_kids xs + count_kids ys
-kids_both [] ys = omega arith
-kids_both (x ∷ xs) ys = omega (arith, kids_both xs ys)
 
 module _ (o : List ℕ) (bytes : IsBytes o) (s : Supported o) (e : Changes) (fits : LaidFits o e) (names : names_fit (avi_of o) e.names ≡ true) (lists : lists_fit (avi_of o) e ≡ true) where
   abbrev a : Avi

@@ -46,32 +46,63 @@ among_sorted t [] i = i
 among_sorted t (u ∷ us) (inl e) = among_put t u (by_place us) (inl e)
 among_sorted t (u ∷ us) (inr i) = among_put t u (by_place us) (inr (among_sorted t us i))
 
--- Where no check fails, each size and each number fits.
-pub checks_fit : (n : Avi) (f : ℕ → ℕ) (o new : List ℕ) → first (checks_of n f o new) ≡ None → FitsBy n f o new
-checks_fit n f o new none =
-    let lists = map (λ (x : Stood). at_most list_limit (length x.chunk.body)) (infos n) in
-    let tables = flat_map (λ (t : Placed). t.checks) (by_place (tables_placed f o)) in
-    let last = at_most 9223372036854775807 (length new) in
-    let all = first_none (checks_of n f o new) none in
-    let is : (c : Check) → Among c (checks_of n f o new) → c.0 ≡ false = λ c j. among_all (λ c. c.0 ≡ false) (checks_of n f o new) all c j in
-    let rest = at_most part_limit (parts n) ∷ (at_most limit32 (length (inner n.children n.left)) ∷ (tables ++ last ∷ [])) in
-    let back : (c : Check) → Among c rest → c.0 ≡ false = λ c j. is c (among_back lists rest c j) in
-    let table : (p : Placed) → Among p (tables_placed f o) → Passes p.checks
-    = λ p j. all_among (λ (c : Check). c.0 ≡ false) p.checks (λ c k. back c (inr (inr (among_front tables (last ∷ []) c (flat_among (λ (t : Placed). t.checks) (by_place (tables_placed f o)) p c (among_sorted p (tables_placed f o) j) k))))) in
-    record {
-      lists_short = all_among (λ x. length x.chunk.body ≤ list_limit) (infos n) (λ x j. ltb-false list_limit (length x.chunk.body) (is (at_most list_limit (length x.chunk.body)) (among_front lists rest _ (map_among (λ (x : Stood). at_most list_limit (length x.chunk.body)) (infos n) x j))));
-      few_parts = ltb-false part_limit (parts n) (back (at_most part_limit (parts n)) (inl refl));
-      form_short = ltb-false limit32 (length (inner n.children n.left)) (back (at_most limit32 (length (inner n.children n.left))) (inr (inl refl)));
-      entries_fit = all_among (λ t. Passes (index_checks f t)) (indexes o) (λ t j. table (record { at = t.at; checks = index_checks f t }) (among_front (map (λ (t : Table). record { at = t.at; checks = index_checks f t }) (indexes o)) (map (λ (t : Table). record { at = t.at; checks = old_checks f (base o) t }) (olds o)) _ (map_among (λ (t : Table). record { at = t.at; checks = index_checks f t }) (indexes o) t j)));
-      rows_fit = all_among (λ t. Passes (old_checks f (base o) t)) (olds o) (λ t j. table (record { at = t.at; checks = old_checks f (base o) t }) (among_back (map (λ (t : Table). record { at = t.at; checks = index_checks f t }) (indexes o)) (map (λ (t : Table). record { at = t.at; checks = old_checks f (base o) t }) (olds o)) _ (map_among (λ (t : Table). record { at = t.at; checks = old_checks f (base o) t }) (olds o) t j)));
-      file_short = ltb-false 9223372036854775807 (length new) (back last (inr (inr (among_back tables (last ∷ []) last (inl refl)))));
-    }
+-- ---- where no check fails
+
+module _ (n : Avi) (count : ℕ) (f : ℕ → ℕ) (o new : List ℕ) (none : first (checks_of n count f o new) ≡ None) where
+  abbrev lists : List Check
+  lists = map (λ (x : Stood). at_most list_limit (length x.chunk.body)) (infos n)
+
+  abbrev tables : List Check
+  tables = flat_map (λ (t : Placed). t.checks) (by_place (tables_placed f o))
+
+  abbrev last : Check
+  last = at_most 9223372036854775807 (length new)
+
+  abbrev rest : List Check
+  rest = at_most part_limit count ∷ (at_most limit32 (length (inner n.children n.left)) ∷ (tables ++ last ∷ []))
+
+  is : (c : Check) → Among c (checks_of n count f o new) → c.0 ≡ false
+  is c j = among_all (λ c. c.0 ≡ false) (checks_of n count f o new) (first_none (checks_of n count f o new) none) c j
+
+  back : (c : Check) → Among c (at_most part_limit count ∷ (at_most limit32 (length (inner n.children n.left)) ∷ (flat_map (λ (t : Placed). t.checks) (by_place (tables_placed f o)) ++ at_most 9223372036854775807 (length new) ∷ []))) → c.0 ≡ false
+  back c j = is c (among_back lists rest c j)
+
+  table : (p : Placed) → Among p (tables_placed f o) → Passes p.checks
+  table p j = all_among (λ (c : Check). c.0 ≡ false) p.checks (λ c k. back c (inr (inr (among_front tables (last ∷ []) c (flat_among (λ (t : Placed). t.checks) (by_place (tables_placed f o)) p c (among_sorted p (tables_placed f o) j) k)))))
+
+  -- the parts that are counted, the first form, and the file
+  pub few_counted : count ≤ part_limit
+  few_counted = ltb-false part_limit count (back (at_most part_limit count) (inl refl))
+
+  pub form_fits : length (inner n.children n.left) ≤ limit32
+  form_fits = ltb-false limit32 (length (inner n.children n.left)) (back (at_most limit32 (length (inner n.children n.left))) (inr (inl refl)))
+
+  pub length_fits : length new ≤ 9223372036854775807
+  length_fits = ltb-false 9223372036854775807 (length new) (back last (inr (inr (among_back tables (last ∷ []) last (inl refl)))))
+
+  -- each size and each number
+  pub checks_fit : parts n ≤ part_limit → FitsBy n f o new
+  checks_fit few = record {
+    lists_short = all_among (λ x. length x.chunk.body ≤ list_limit) (infos n) (λ x j. ltb-false list_limit (length x.chunk.body) (is (at_most list_limit (length x.chunk.body)) (among_front lists rest _ (map_among (λ (x : Stood). at_most list_limit (length x.chunk.body)) (infos n) x j))));
+    few_parts = few;
+    form_short = form_fits;
+    entries_fit = all_among (λ t. Passes (index_checks f t)) (indexes o) (λ t j. table (record { at = t.at; checks = index_checks f t }) (among_front (map (λ (t : Table). record { at = t.at; checks = index_checks f t }) (indexes o)) (map (λ (t : Table). record { at = t.at; checks = old_checks f (base o) t }) (olds o)) _ (map_among (λ (t : Table). record { at = t.at; checks = index_checks f t }) (indexes o) t j)));
+    rows_fit = all_among (λ t. Passes (old_checks f (base o) t)) (olds o) (λ t j. table (record { at = t.at; checks = old_checks f (base o) t }) (among_back (map (λ (t : Table). record { at = t.at; checks = index_checks f t }) (indexes o)) (map (λ (t : Table). record { at = t.at; checks = old_checks f (base o) t }) (olds o)) _ (map_among (λ (t : Table). record { at = t.at; checks = old_checks f (base o) t }) (olds o) t j)));
+    file_short = length_fits;
+  }
 
 -- Where nothing is too large, each size and each number fits.
 pub fits_of : (o : List ℕ) (i : Rattle.container_model.specs.Items.Item (List ℕ)) (e : Items) → first (all_checks o (i ∷ e)) ≡ None → Fits o (i ∷ e)
 unfolding laid_file
-fits_of o i e none = checks_fit (new_avi o (i ∷ e)) (shift (edit_cuts (avi_of o) (i ∷ e))) o (laid_file o (i ∷ e)) none
+fits_of o i e none =
+    let n = new_avi o (i ∷ e) in
+    let f = shift (edit_cuts (avi_of o) (i ∷ e)) in
+    let new = laid_file o (i ∷ e) in
+    checks_fit n (parts n) f o new none (few_counted n (parts n) f o new none)
 
 -- The new file has a length that can be told, and its first form too.
 pub file_fits : (o : List ℕ) (e : Items) → first (all_checks o e) ≡ None → (length (edited_file o e) ≤ 9223372036854775807) × (length (inner (new_avi o e).children (new_avi o e).left) ≤ limit32)
-file_fits o e none = let fit = checks_fit (new_avi o e) (shift (edit_cuts (avi_of o) e)) o (edited_file o e) none in (fit.file_short, fit.form_short)
+file_fits o e none =
+    let n = new_avi o e in
+    let f = shift (edit_cuts (avi_of o) e) in
+    (length_fits n (parts n) f o (edited_file o e) none, form_fits n (parts n) f o (edited_file o e) none)

@@ -20,6 +20,7 @@ pub mod Kept
 pub mod InfosEnd
 pub mod Listed
 pub mod Lists
+pub mod Homes
 pub mod Supports
 pub mod OldOne
 pub mod OldIndex
@@ -98,5 +99,6 @@ pub mod NamesLay
 pub mod UnitsSplit
 pub mod JoinedInPlace
 pub mod JoinedFew
+pub mod JoinedParts
 pub mod AviKind
 pub mod JoinedNames

@@ -1,6 +1,6 @@
 -- AVI files whose streams have names, after an accepted edit that isn't too large: they are supported, their fields are the old ones
 -- updated, and their tables find the same.
-use Rattle.std.proofs.Common.{◌≡◌, ℕ, ◌^◌, ◌<◌, Bool, true, false, cond, List, [], ◌∷◌, length, None, refl, sym, ap, subst, ◌∙◌, arith, inl, inr}
+use Rattle.std.proofs.Common.{◌≡◌, ℕ, ◌^◌, ◌<◌, ◌≤◌, Bool, true, false, cond, List, [], ◌∷◌, length, None, refl, sym, ap, subst, ◌∙◌, arith, inl, inr}
 use Rattle.std.specs.Prelude.{◌⊎◌, ◌&&◌}
 use Rattle.me_bytes.specs.Bytes.{IsBytes}
 use Rattle.part_tree.specs.Names.{IsFieldName}
@@ -14,26 +14,29 @@ use Rattle.field_model.specs.Update.{effective, raw_items, update}
 use Rattle.container_model.specs.Items.{is_nil, updated}
 use Rattle.container_model.specs.Tests.{first}
 use Rattle.opendml_index.specs.Index.{move}
-use Rattle.avi_model.specs.After.{Changes, all_changes, all_fields, avi_after, changed_file, checks_after, children_after, file_after, goes, is_idle, joined, joined_file, large_after}
+use Rattle.avi_model.specs.After.{Changes, all_changes, all_fields, changed_file, checks_after, children_after, file_after, goes, is_idle, joined, joined_file, large_after, parts_after}
 use Rattle.avi_model.specs.Avi.{Avi, avi_of, inner, spell_avi, strls}
 use Rattle.avi_model.specs.Edited.{info_values}
 use Rattle.avi_model.specs.Heads.{nth_names}
 use Rattle.avi_model.specs.Index.{writes}
 use Rattle.avi_model.specs.KeptAfter.{all_kept, all_placed}
+use Rattle.avi_model.specs.Large.{checks_of}
 use Rattle.avi_model.specs.Named.{Names, names_after}
 use Rattle.avi_model.specs.NewFile.{Items}
 use Rattle.avi_model.specs.Pieces.{pieces}
 use Rattle.avi_model.specs.JoinedSplices.{IsJoinedSplice}
-use Rattle.avi_model.specs.Support.{Supported, SupportedNames}
+use Rattle.avi_model.specs.Support.{Supported, SupportedNames, part_limit, parts}
 use Rattle.avi_model.proofs.AfterFields.{items_give, read_back}
 use Rattle.avi_model.proofs.AfterKind.{checked, none_changed}
-use Rattle.avi_model.proofs.Fit.{FitsBy, checks_fit}
+use Rattle.avi_model.proofs.Fit.{FitsBy, checks_fit, few_counted, form_fits}
 use Rattle.avi_model.proofs.Frames.{again as read_again}
 use Rattle.avi_model.proofs.JoinedEdited.{are_below, joined_again, joined_named, joined_pieces, joined_reads}
 use Rattle.avi_model.proofs.JoinedGrows.{essence_grows}
 use Rattle.avi_model.proofs.JoinedKept.{joined_kept}
+use Rattle.avi_model.proofs.JoinedLaid.{hdrl_small}
 use Rattle.avi_model.proofs.JoinedNodes.{placed_nothing}
 use Rattle.avi_model.proofs.JoinedOne.{joined_splice}
+use Rattle.avi_model.proofs.JoinedParts.{parts_told}
 use Rattle.avi_model.proofs.Read.{renewed_avi}
 
 pub record Made (o : List ℕ) (e : List EditItem) (n : List ℕ) : Type 0 where
@@ -61,15 +64,18 @@ pub laid_fits : (o : List ℕ) (e : List EditItem) → IsBytes o → Supported o
 laid_fits o e bytes s small i =
     let c = all_changes o e in
     let b = renewed_avi (writes (move (goes (avi_of o) c)) o) (avi_of o) in
-    let is : avi_after o c ≡ joined b c = ap (λ (x : Avi). joined x c) (read_again o bytes s (move (goes (avi_of o) c))) in
+    let f = goes (avi_of o) c in
+    let new = changed_file o c in
     let told : changed_file o c ≡ joined_file o c = ap (λ (t : Bool). cond t o (joined_file o c)) i in
-    let one : FitsBy (joined b c) (goes (avi_of o) c) o (changed_file o c) = subst (λ (x : Avi). FitsBy x (goes (avi_of o) c) o (changed_file o c)) is (fits (checked o e small)) in
-    let short : length (inner (children_after b c) (avi_of o).left) < 2 ^ 32 = omega (arith, one.form_short) in
+    let none : first (checks_of (joined b c) (parts_after b c) (goes (avi_of o) c) o (changed_file o c)) ≡ None = subst (λ (x : Avi). first (checks_of (joined x c) (parts_after x c) (goes (avi_of o) c) o (changed_file o c)) ≡ None) (read_again o bytes s (move f)) (fits (checked o e small)) in
+    let short : length (inner (children_after b c) (avi_of o).left) < 2 ^ 32 = omega (arith, form_fits (joined b c) (parts_after b c) f o new none) in
+    let few : parts (joined b c) ≤ part_limit = omega (arith, few_counted (joined b c) (parts_after b c) f o new none, parts_told o bytes s c (hdrl_small o bytes s c short)) in
+    let one = checks_fit (joined b c) (parts_after b c) f o new none few in
     record { short = short; fit = subst (λ (n : List ℕ). FitsBy (joined b c) (goes (avi_of o) c) o n) (told ∙ joined_again o bytes s c short) one }
   where
-    fits : (effective (all_fields o) e ≡ []) ⊎ (first (checks_after o (all_changes o e)) ≡ None) → FitsBy (avi_after o (all_changes o e)) (goes (avi_of o) (all_changes o e)) o (changed_file o (all_changes o e))
+    fits : (effective (all_fields o) e ≡ []) ⊎ (first (checks_after o (all_changes o e)) ≡ None) → first (checks_after o (all_changes o e)) ≡ None
     fits (inl none) = let yes : is_idle (all_changes o e) ≡ true = ap is_idle (none_changed o e none) in absurd cc
-    fits (inr all) = checks_fit (avi_after o (all_changes o e)) (goes (avi_of o) (all_changes o e)) o (changed_file o (all_changes o e)) all
+    fits (inr all) = all
 
 module _ (o : List ℕ) (e : List EditItem) (bytes : IsBytes o) (s : SupportedNames o) (rules : broken avi (length (strls (avi_of o))) (all_fields o) e Base ≡ None) where
   abbrev c : Changes

@@ -116,11 +116,16 @@ module _ (c : Chunk) (cs : List Chunk) (plain : IsPlain c) (is : IsList c) (at :
   new_length = list_length c cs is
 
   -- where its chunks keep their length
+  list_keeps_pad : length (spell_all cs) ≡ length (spell_all (list_run c).chunks) → (list_with c cs).pad ≡ c.pad
+  list_keeps_pad same =
+      let b = word ++ (spell_all cs ++ left) in
+      keeps_pad c b (ap length (sym (respelled_body c b)) ∙ omega (arith, body_length, new_length, same))
+
   pub list_exactly : Exactly (at + 12) (spell_all (list_run c).chunks) (spell_all cs) ks → Exactly at (spell c) (spell (list_with c cs)) (list_patch at c (list_with c cs) ++ ks)
   list_exactly k =
       let same : length new_list.body ≡ length c.body = omega (arith, body_length, new_length, k.long) in
       let none : list_patch at c new_list ≡ [] = cond-true (eqb (length c.body) (length new_list.body)) [] (patch (at + 4) (to_le_bytes w32 (length new_list.body))) (eq-eqb (length c.body) (length new_list.body) (sym same)) in
-      let pad : new_list.pad ≡ c.pad = keeps_pad c (word ++ (spell_all cs ++ left)) (ap length (sym (respelled_body c (word ++ (spell_all cs ++ left)))) ∙ same) in
+      let pad : new_list.pad ≡ c.pad = list_keeps_pad k.long in
       let head = c.id ++ (to_le_bytes w32 (length c.body) ++ word) in
       let t = left ++ c.pad in
       let long : at + length head ≡ at + 12 = omega (arith, plain.id_len, word_long c is, length-append c.id (to_le_bytes w32 (length c.body) ++ word), length-append (to_le_bytes w32 (length c.body)) word) in
@@ -199,15 +204,28 @@ module _ (e : Names) where
         lay_all IsPadded (strl_fill s.ends s.chunk) (record { on_pads = λ d k. length-replicate (pad_len d.form (length d.body)) 0; on_fill = λ last slot k. fill_all IsPadded (λ body. made_padded (codes "JUNK") body) (s.ends && ends_list s.chunk) last slot k }) shut
         (name_cells (made_names vs) (map cell_of (list_run s.chunk).chunks)) tt (cells_names IsPadded (made_names vs) (all_names IsPadded (λ body. made_padded (codes "strn") body) vs) (map cell_of (list_run s.chunk).chunks) (cells_all IsPadded (list_run s.chunk).chunks h))
 
+    even_then : ((list_run s.chunk).left ≡ []) → length (spell_all (list_run s.chunk).chunks) % 2 ≡ 0 → length (spell_all (lay (strl_fill s.ends s.chunk) (strl_pieces (new_names e s.stream) s.chunk))) % 2 ≡ 0
+    even_then none h = even_all (lay (strl_fill s.ends s.chunk) ps) (strl_plain s.ends vs s.chunk is) (padded_then (all_padded (list_run s.chunk).chunks (list_plain s.chunk) (subst (λ (l : List ℕ). Pads (list_run s.chunk).chunks l) none is.pads) h))
+
     pub strl_lastly : (s.ends && ends_list s.chunk) ≡ true → Lastly s.at (spell s.chunk) (spell (strl_named s.ends (new_names e s.stream) s.chunk)) (strl_patches e s)
     strl_lastly t =
         let cs = lay (strl_fill s.ends s.chunk) ps in
         let none = ends_are s.ends s.chunk t in
-        let even : length (spell_all (list_run s.chunk).chunks) % 2 ≡ 0 → length (spell_all cs) % 2 ≡ 0
-        = λ h. even_all cs (strl_plain s.ends vs s.chunk is) (padded_then (all_padded (list_run s.chunk).chunks (list_plain s.chunk) (subst (λ (l : List ℕ). Pads (list_run s.chunk).chunks l) none.0 is.pads) h)) in
-        list_lastly s.chunk cs plain is s.at (unit_patches (strl_fill s.ends s.chunk) (s.at + 12) ps) none.0 none.1 (list_no_pad s.chunk cs plain is s.at (unit_patches (strl_fill s.ends s.chunk) (s.at + 12) ps) none.0 none.1 even)
+        list_lastly s.chunk cs plain is s.at (unit_patches (strl_fill s.ends s.chunk) (s.at + 12) ps) none.0 none.1 (list_no_pad s.chunk cs plain is s.at (unit_patches (strl_fill s.ends s.chunk) (s.at + 12) ps) none.0 none.1 (even_then none.0))
         (last_told (s.at + 12) (s.at + 12) (flat_map old_bytes ps) (spell_all cs) (spell_all (list_run s.chunk).chunks) (spell_all cs) (unit_patches (strl_fill s.ends s.chunk) (s.at + 12) ps) refl old refl
         (units_lastly (strl_fill s.ends s.chunk) last_slot (s.at + 12) ps (last_units shut (name_cells (new_names e s.stream) (map cell_of (list_run s.chunk).chunks))) brings fits))
+
+    -- it keeps its pad
+    pub strl_pad : (strl_named s.ends (new_names e s.stream) s.chunk).pad ≡ s.chunk.pad
+    strl_pad = go (s.ends && ends_list s.chunk) refl
+      where
+        go : (t : Bool) → (s.ends && ends_list s.chunk) ≡ t → (strl_named s.ends (new_names e s.stream) s.chunk).pad ≡ s.chunk.pad
+        go false n =
+            let cs = lay (strl_fill s.ends s.chunk) ps in
+            list_keeps_pad s.chunk cs plain is s.at [] (omega (arith, (units_exactly (strl_fill s.ends s.chunk) last_slot (s.at + 12) ps n brings fits).long, ap length old))
+        go true t =
+            let none = ends_are s.ends s.chunk t in
+            list_no_pad s.chunk (lay (strl_fill s.ends s.chunk) ps) plain is s.at [] none.0 none.1 (even_then none.0) ∙ sym none.1
 
   -- ---- the chunks of hdrl
 
@@ -307,10 +325,21 @@ module _ (e : Names) where
     pub hdrl_exactly : (s.ends && ends_list s.chunk) ≡ false → Exactly s.at (spell s.chunk) (spell (hdrl_named e s.ends s.chunk)) (hdrl_patches e s)
     hdrl_exactly n = list_exactly s.chunk new plain is s.at (flat_map (strl_patches e) (sites_in e s)) (kids_exactly (s.ends && ends_list s.chunk) 0 (s.at + 12) (list_run s.chunk).chunks n kids fit)
 
+    evens : ((list_run s.chunk).left ≡ []) → length (spell_all (list_run s.chunk).chunks) % 2 ≡ 0 → length (spell_all (kids_named e (s.ends && ends_list s.chunk) 0 (list_run s.chunk).chunks)) % 2 ≡ 0
+    evens none h = even_all new (kids_plain e (s.ends && ends_list s.chunk) 0 (list_run s.chunk).chunks kids) (kids_padded (s.ends && ends_list s.chunk) 0 (list_run s.chunk).chunks kids (all_padded (list_run s.chunk).chunks (list_plain s.chunk) (subst (λ (l : List ℕ). Pads (list_run s.chunk).chunks l) none is.pads) h))
+
     pub hdrl_lastly : (s.ends && ends_list s.chunk) ≡ true → Lastly s.at (spell s.chunk) (spell (hdrl_named e s.ends s.chunk)) (hdrl_patches e s)
     hdrl_lastly t =
         let none = ends_are s.ends s.chunk t in
-        let even : length (spell_all (list_run s.chunk).chunks) % 2 ≡ 0 → length (spell_all new) % 2 ≡ 0
-        = λ h. even_all new (kids_plain e (s.ends && ends_list s.chunk) 0 (list_run s.chunk).chunks kids) (kids_padded (s.ends && ends_list s.chunk) 0 (list_run s.chunk).chunks kids (all_padded (list_run s.chunk).chunks (list_plain s.chunk) (subst (λ (l : List ℕ). Pads (list_run s.chunk).chunks l) none.0 is.pads) h)) in
-        list_lastly s.chunk new plain is s.at (flat_map (strl_patches e) (sites_in e s)) none.0 none.1 (list_no_pad s.chunk new plain is s.at (flat_map (strl_patches e) (sites_in e s)) none.0 none.1 even)
+        list_lastly s.chunk new plain is s.at (flat_map (strl_patches e) (sites_in e s)) none.0 none.1 (list_no_pad s.chunk new plain is s.at (flat_map (strl_patches e) (sites_in e s)) none.0 none.1 (evens none.0))
         (kids_lastly (s.ends && ends_list s.chunk) 0 (s.at + 12) (list_run s.chunk).chunks kids fit)
+
+    -- it keeps its pad
+    pub hdrl_pad : (hdrl_named e s.ends s.chunk).pad ≡ s.chunk.pad
+    hdrl_pad = go (s.ends && ends_list s.chunk) refl
+      where
+        go : (t : Bool) → (s.ends && ends_list s.chunk) ≡ t → (hdrl_named e s.ends s.chunk).pad ≡ s.chunk.pad
+        go false n = list_keeps_pad s.chunk new plain is s.at [] (kids_exactly (s.ends && ends_list s.chunk) 0 (s.at + 12) (list_run s.chunk).chunks n kids fit).long
+        go true t =
+            let none = ends_are s.ends s.chunk t in
+            list_no_pad s.chunk new plain is s.at [] none.0 none.1 (evens none.0) ∙ sym none.1

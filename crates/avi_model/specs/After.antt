@@ -16,13 +16,15 @@ use Rattle.container_model.specs.Tests.{first}
 use Rattle.container_model.specs.Units.{shut, units, cuts}
 use Rattle.carrier_model.specs.RiffForm.{new_pad, pad_cut, fill_of}
 use Rattle.opendml_index.specs.Index.{move}
-use Rattle.avi_model.specs.Avi.{Avi, avi_of, inner, behind, spell_avi, strls}
+use Rattle.avi_model.specs.Avi.{Avi, avi_of, inner, behind, hdrls, others_at, spell_avi, strls}
 use Rattle.avi_model.specs.Edited.{fields, info_edit}
 use Rattle.avi_model.specs.Heads.{nth_names}
 use Rattle.avi_model.specs.Index.{renumbered}
 use Rattle.avi_model.specs.Large.{Check, checks_of}
-use Rattle.avi_model.specs.Named.{Name, Names, named, name_cuts, riff_of}
+use Rattle.avi_model.specs.Named.{Names, named, name_cuts, riff_of}
 use Rattle.avi_model.specs.NewFile.{Items, new_cells, new_children}
+use Rattle.avi_model.specs.Streams.{stream_parts}
+use Rattle.avi_model.specs.Support.{count_kids, infos}
 
 -- ---- fields
 
@@ -84,9 +86,13 @@ goes a e p = shift (list_cuts a e) (shift (name_cuts a e.names) p)
 
 -- ---- the new file
 
+-- the old file with the numbers of its tables moved
+abbrev pub renumbered_avi : List ℕ → Changes → Avi
+renumbered_avi o e = avi_of (renumbered (move (goes (avi_of o) e)) o)
+
 -- the parts of the new file, with the numbers of its tables moved
 abbrev pub avi_after : List ℕ → Changes → Avi
-avi_after o e = joined (avi_of (renumbered (move (goes (avi_of o) e)) o)) e
+avi_after o e = joined (renumbered_avi o e) e
 
 -- The numbers are written into the old file, which keeps every length; then the edit is laid.
 unfoldable pub joined_file : List ℕ → Changes → List ℕ
@@ -102,9 +108,14 @@ file_after o e = changed_file o (all_changes o e)
 
 -- ---- what is too large
 
+-- How many parts there are after an edit: they are counted as they are laid, so also where 32 bits don't hold the size of hdrl.
+abbrev pub parts_after : Avi → Changes → ℕ
+parts_after a e =
+    length (children_after a e) + (count_kids (hdrls a) + (stream_parts a e.names + count_kids (infos (joined a e)))) + count_kids (others_at a)
+
 -- the checks of an edit, in their order
 abbrev pub checks_after : List ℕ → Changes → List Check
-checks_after o e = checks_of (avi_after o e) (goes (avi_of o) e) o (changed_file o e)
+checks_after o e = checks_of (avi_after o e) (parts_after (renumbered_avi o e) e) (goes (avi_of o) e) o (changed_file o e)
 
 -- without an item that has an effect nothing is
 abbrev pub large_by : List EditItem → List ℕ → Changes → Option Size

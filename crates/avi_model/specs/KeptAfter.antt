@@ -5,7 +5,7 @@ use Rattle.container_model.specs.Chunk.{Chunk}
 use Rattle.carrier_model.specs.Lists.{Node, other}
 use Rattle.opendml_index.specs.Index.{blank}
 use Rattle.avi_model.specs.After.{Changes}
-use Rattle.avi_model.specs.Avi.{Avi, avi_of, first_body, but_first}
+use Rattle.avi_model.specs.Avi.{Avi, avi_of, but_first}
 use Rattle.avi_model.specs.Heads.{Head, head_of, head_with}
 use Rattle.avi_model.specs.Index.{renumbered}
 use Rattle.avi_model.specs.Kept.{Kept, nodes_of, placed}

@@ -91,18 +91,18 @@ tables_placed f o =
 abbrev pub new_avi : List ℕ → Items → Avi
 new_avi o e = laid (avi_of (renumbered (move (shift (edit_cuts (avi_of o) e))) o)) e
 
--- the checks in their order, of the new parts and the new file, where places move: lists of fields, parts, the form, the entries by
--- table, the file
-abbrev pub checks_of : Avi → (ℕ → ℕ) → List ℕ → List ℕ → List Check
-checks_of n f o new =
+-- the checks in their order, of the new parts, of which there are so many, and the new file, where places move: lists of fields, parts,
+-- the form, the entries by table, the file
+abbrev pub checks_of : Avi → ℕ → (ℕ → ℕ) → List ℕ → List ℕ → List Check
+checks_of n count f o new =
     map (λ (x : Stood). at_most list_limit (length x.chunk.body)) (infos n)
-    ++ (at_most part_limit (parts n)
+    ++ (at_most part_limit count
     ∷ (at_most limit32 (length (inner n.children n.left))
     ∷ (flat_map (λ t. t.checks) (by_place (tables_placed f o)) ++ at_most 9223372036854775807 (length new) ∷ [])))
 
 -- the checks of an edit
 abbrev pub all_checks : List ℕ → Items → List Check
-all_checks o e = checks_of (new_avi o e) (shift (edit_cuts (avi_of o) e)) o (edited_file o e)
+all_checks o e = checks_of (new_avi o e) (parts (new_avi o e)) (shift (edit_cuts (avi_of o) e)) o (edited_file o e)
 
 -- without an item that has an effect nothing is
 abbrev pub too_large_by : List EditItem → List ℕ → Items → Option Size

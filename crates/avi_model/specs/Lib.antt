@@ -1,6 +1,7 @@
 pub mod Avi
 pub mod Index
 pub mod Named
+pub mod Streams
 pub mod Heads
 pub mod NamesSet
 pub mod Pieces
