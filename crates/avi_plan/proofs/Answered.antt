@@ -27,7 +27,7 @@ use Rattle.container_model.specs.Tables as stood
 use Rattle.container_model.specs.Tests.{first, or_else}
 use Rattle.carrier_model.specs.Gaps.{moves_of}
 use Rattle.opendml_index.specs.Index.{How, move}
-use Rattle.avi_model.specs.After.{Changes, all_changes, all_fields, avi_after, changed_file, checks_after, children_after, file_after, goes, is_idle, joined, joined_file, large_after, large_by}
+use Rattle.avi_model.specs.After.{Changes, all_changes, all_fields, avi_after, changed_file, checks_after, children_after, file_after, goes, is_idle, joined, joined_file, large_after, large_by, parts_after, renumbered_avi}
 use Rattle.avi_model.specs.Avi.{Avi, avi_of, inner, old_indexes}
 use Rattle.avi_model.specs.Index.{base, indexes, olds, writes}
 use Rattle.avi_model.specs.JoinedSplices.{IsJoinedSplice, after_cuts, joined_cuts}
@@ -196,7 +196,7 @@ module _ (b : List ℕ) (e : List EditItem) (bytes : IsBytes b) (sup : Supported
   all_told =
       let fronts = λ (k m : ℕ). at_most part_limit k ∷ (at_most limit32 m ∷ []) in
       let last = λ (x : List ℕ). at_most 9223372036854775807 (length x) ∷ [] in
-      let k = parts (avi_after b c) in
+      let k = parts_after (renumbered_avi b c) c in
       let m = length (inner (avi_after b c).children (avi_after b c).left) in
       large_is
       ∙ first_both (list_checks b c) (fronts k m ++ (tables ++ last (changed_file b c)))

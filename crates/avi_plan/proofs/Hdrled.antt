@@ -1,5 +1,5 @@
 -- `hdrl` with other names, as a planner and as the model has it.
-use Rattle.std.proofs.Common.{◌≡◌, ◌∙◌, ℕ, ◌+◌, ◌%◌, ◌≤◌, Bool, true, false, cond, eqb, List, [], ◌∷◌, ◌++◌, length, map, take, drop, min, refl, sym, ap, subst, arith, inl, inr, append-nil, length-append}
+use Rattle.std.proofs.Common.{◌≡◌, ◌∙◌, ℕ, ◌+◌, ◌%◌, ◌≤◌, Bool, true, false, cond, eqb, List, [], ◌∷◌, ◌++◌, length, map, take, drop, min, refl, sym, ap, subst, arith, append-nil, length-append}
 use Rattle.std.specs.Prelude.{◌&&◌}
 use Rattle.std.specs.Int.{w32, to_le_bytes}
 use Rattle.std.specs.List.{flat_map, list_all}
@@ -8,34 +8,31 @@ use Rattle.std.proofs.lemmas.List.{length-drop}
 use Rattle.me_bytes.specs.Bytes.{IsBytes}
 use Rattle.part_tree.specs.declared.names.Span.{Span}
 use Rattle.part_tree.specs.declared.plan.Patch.{Patch}
-use Rattle.container_model.specs.Chunk.{Chunk, Form, PadStands, Pads, pad_len, riff, spell, spell_all}
+use Rattle.container_model.specs.Chunk.{Chunk, PadStands, Pads, spell, spell_all}
 use Rattle.container_model.specs.Items.{is_nil}
 use Rattle.container_model.specs.Splice.{Cut}
 use Rattle.container_model.specs.Stood.{Stood, bare, only, stood}
 use Rattle.container_model.specs.Units.{lacks_pad}
 use Rattle.container_model.proofs.Plain.{ArePlain, IsPlain}
-use Rattle.container_model.proofs.Reread.{ArePadded, IsPadded}
 use Rattle.container_model.proofs.Units.{spell_all-append}
-use Rattle.carrier_model.specs.Cells.{counted}
 use Rattle.carrier_model.specs.Info.{list_run}
 use Rattle.carrier_model.specs.Room.{patch}
-use Rattle.carrier_model.proofs.RiffForm.{none_is}
 use Rattle.unit_plan.specs.Cuts.{SpansAscend, cut_in, patch_of}
 use Rattle.unit_plan.specs.declared.cut.CutAt.{CutAt}
 use Rattle.unit_plan.proofs.Spans.{lost_low}
 use Rattle.avi_model.specs.Avi.{Avi, avi_of, behind, body_span, hdrls, inner, kids}
-use Rattle.avi_model.specs.Named.{Names, Site, ends_file, ends_list, hdrl_named, hdrl_site, is_hdrl, is_named, is_strl, kid_named, kids_named, list_pad, list_with, named, new_names, respelled, riff_of, sites_from, sites_in, strl_named}
+use Rattle.avi_model.specs.Named.{Names, Site, ends_file, ends_list, hdrl_named, hdrl_site, is_strl, kids_named, list_pad, sites_in}
 use Rattle.avi_model.specs.RoomAfter.{hdrl_patches, strl_fits}
 use Rattle.avi_model.specs.Support.{Supported}
 use Rattle.avi_model.proofs.JoinedSpliced.{avi_parts, head_bytes}
 use Rattle.avi_model.proofs.Levels.{Ended}
 use Rattle.avi_model.proofs.NamesHdrl.{FirstHdrl, first_hdrl}
-use Rattle.avi_model.proofs.NamesLay.{list_no_pad, strl_exactly}
+use Rattle.avi_model.proofs.NamesLay.{hdrl_pad}
 use Rattle.avi_model.proofs.NamesSet.{supported_children}
-use Rattle.avi_model.proofs.Respelled.{IsList, list_length, list_plain, respelled_body, respelled_form, respelled_id, respelled_stands}
+use Rattle.avi_model.proofs.Respelled.{IsList, list_length, respelled_body, respelled_form, respelled_id}
 use Rattle.avi_model.proofs.Sound.{ended}
 use Rattle.avi_model.proofs.Stands.{is_file}
-use Rattle.avi_model.proofs.Streams.{AreKids, IsKid, kids_plain}
+use Rattle.avi_model.proofs.Streams.{AreKids}
 use Rattle.avi_plan.specs.Lists.{IsSoundList, keeps_pad, lacks_then, len_then, list_cuts, size_then}
 use Rattle.avi_plan.specs.NamesAt.{name_needed, strl_needed}
 use Rattle.avi_plan.specs.Streams.{AreSites, StreamsTold, TellsStreams, behind_type, named_among}
@@ -45,46 +42,6 @@ use Rattle.avi_plan.specs.declared.streams.StreamSpans.{StreamSpans}
 use Rattle.avi_plan.proofs.Around.{IsListOf, around_is, around_patches, keeps_where, lacks_is, pad_long, spelled_long}
 use Rattle.avi_plan.proofs.Grown.{grow, kids_grow, lose, told_grow, told_lose}
 use Rattle.avi_plan.proofs.Sited.{StandAt, ends_split, first_part, hdrl_found, inside_stands, list_ends, named_sites, next_is, other_part, sites_are, stand_as, stand_end, strl_sites}
-use Rattle.avi_plan.proofs.Strled.{all_padded, even_all, same_pad}
-
--- ---- the chunks of hdrl keep their length where their units fit, or their pads
-
-fit_both : (e : Names) (xs ys : List Site) → list_all (strl_fits e) (xs ++ ys) ≡ true → (list_all (strl_fits e) xs ≡ true) × (list_all (strl_fits e) ys ≡ true)
-fit_both e [] ys h = (refl, h)
-fit_both e (x ∷ xs) ys h =
-    let p = and_parts (strl_fits e x) (list_all (strl_fits e) (xs ++ ys)) h in
-    let q = fit_both e xs ys p.1 in
-    (ap (λ (t : Bool). t && list_all (strl_fits e) xs) p.0 ∙ q.0, q.1)
-
-kid_exact : (e : Names) (n at : ℕ) (c : Chunk) → IsKid c → list_all (strl_fits e) (cond (is_strl c && is_named e n) (record { at = at; ends = false; stream = n; chunk = c } ∷ []) []) ≡ true → length (spell (kid_named e false n c)) ≡ length (spell c)
-kid_exact e n at c h fit = go (is_strl c) refl (is_named e n) fit
-  where
-    go : (t : Bool) → is_strl c ≡ t → (u : Bool) → list_all (strl_fits e) (cond (t && u) (record { at = at; ends = false; stream = n; chunk = c } ∷ []) []) ≡ true → length (spell (cond (t && u) (strl_named false (new_names e n) c) c)) ≡ length (spell c)
-    go true i true fit = (strl_exactly e (record { at = at; ends = false; stream = n; chunk = c }) h.plain (h.opens i) (and_parts (strl_fits e (record { at = at; ends = false; stream = n; chunk = c })) true fit).0 refl).long
-    go true i false fit = refl
-    go false i u fit = refl
-
-kids_exact : (e : Names) (n at : ℕ) (cs : List Chunk) → AreKids cs → list_all (strl_fits e) (sites_from e false n at cs) ≡ true → length (spell_all (kids_named e false n cs)) ≡ length (spell_all cs)
-kids_exact e n at [] h fit = refl
-kids_exact e n at (c ∷ cs) h fit =
-    let k = counted is_strl n c in
-    let f = fit_both e (cond (is_strl c && is_named e n) (record { at = at; ends = false; stream = n; chunk = c } ∷ []) []) (sites_from e false k (at + length (spell c)) cs) fit in
-    omega (arith, kid_exact e n at c h.0 f.0, kids_exact e k (at + length (spell c)) cs h.1 f.1, length-append (spell c) (spell_all cs), length-append (spell (kid_named e false n c)) (spell_all (kids_named e false k cs)))
-
-respelled_padded : (c : Chunk) (b : List ℕ) → c.form ≡ riff → IsPadded c → IsPadded (respelled c b)
-respelled_padded c b form h = go (respelled_stands c b (0 ∷ []) (0 ∷ []) form (λ e. e) (inl (h ∙ ap (λ (f : Form). pad_len f (length c.body)) form)))
-  where
-    go : PadStands riff (length b) (respelled c b).pad (0 ∷ []) → IsPadded (respelled c b)
-    go (inl e) = e ∙ ap (λ (f : Form). pad_len f (length b)) (sym (respelled_form c b ∙ form)) ∙ ap (λ (x : List ℕ). pad_len (respelled c b).form (length x)) (sym (respelled_body c b))
-    go (inr e) = absurd cc
-
-kids_padded : (e : Names) (t : Bool) (n : ℕ) (cs : List Chunk) → AreKids cs → ArePadded cs → ArePadded (kids_named e t n cs)
-kids_padded e t n [] h p = tt
-kids_padded e t n (c ∷ cs) h p = (go (is_strl c && is_named e n), kids_padded e t (counted is_strl n c) cs h.1 p.1)
-  where
-    go : (u : Bool) → IsPadded (cond u (strl_named (t && is_nil cs) (new_names e n) c) c)
-    go true = respelled_padded c (take 4 c.body ++ (spell_all (Rattle.container_model.specs.Units.lay (Rattle.avi_model.specs.Named.strl_fill (t && is_nil cs) c) (Rattle.avi_model.specs.Named.strl_pieces (new_names e n) c)) ++ (list_run c).left)) h.0.plain.form_is p.0
-    go false = p.0
 
 -- ---- hdrl
 
@@ -109,24 +66,6 @@ module _ (e : Names) (h : Site) (plain : IsPlain h.chunk) (is : IsList h.chunk) 
 
   body_long : length h.chunk.body ≡ 4 + (length (spell_all (list_run h.chunk).chunks) + length (list_run h.chunk).left)
   body_long = omega (arith, is.long, ap length is.spelled, length-append (spell_all kids_of) left_of, length-drop 4 h.chunk.body)
-
-  -- it keeps its pad where the units fit
-  pad_stays : list_all (strl_fits e) (sites_in e h) ≡ true → new.pad ≡ h.chunk.pad
-  pad_stays fit = go (h.ends && ends_list h.chunk) refl
-    where
-      go : (t : Bool) → (h.ends && ends_list h.chunk) ≡ t → new.pad ≡ h.chunk.pad
-      go false n =
-          let f : list_all (strl_fits e) (sites_from e false 0 (h.at + 12) kids_of) ≡ true = subst (λ (t : Bool). list_all (strl_fits e) (sites_from e t 0 (h.at + 12) kids_of) ≡ true) n fit in
-          let same : length (spell_all news) ≡ length (spell_all kids_of) = ap (λ (t : Bool). length (spell_all (kids_named e t 0 kids_of))) n ∙ kids_exact e 0 (h.at + 12) kids_of kids_are f in
-          same_pad h.chunk body (ap length (sym (respelled_body h.chunk body)) ∙ omega (arith, list_length h.chunk news is, same, body_long))
-      go true t =
-          let p = and_parts h.ends (ends_list h.chunk) t in
-          let q = and_parts (is_nil left_of) (is_nil h.chunk.pad) p.1 in
-          let no_left : left_of ≡ [] = none_is left_of q.0 in
-          let no_pad : h.chunk.pad ≡ [] = none_is h.chunk.pad q.1 in
-          let even : length (spell_all kids_of) % 2 ≡ 0 → length (spell_all news) % 2 ≡ 0
-          = λ k. even_all news (kids_plain e last 0 kids_of kids_are) (kids_padded e last 0 kids_of kids_are (all_padded kids_of (list_plain h.chunk) (subst (λ (x : List ℕ). Pads kids_of x) no_left is.pads) k)) in
-          list_no_pad h.chunk news plain is h.at [] no_left no_pad even ∙ sym no_pad
 
   module _ (b : List ℕ) (l : ListAt) (sound : IsSoundList l) (of : IsListOf l h.at h.chunk) (inside : l.next ≤ length b) (found : StreamSpans) (told : StreamsTold b e (sites_in e h) found)
       (ascend : SpansAscend (l.at + 12) found.cuts.items (l.at + 8 + l.size)) where
@@ -155,7 +94,7 @@ module _ (e : Names) (h : Site) (plain : IsPlain h.chunk) (is : IsList h.chunk) 
     body_same = size_is ∙ ap length (respelled_body h.chunk body)
 
     keeps : found.fits ≡ true → keeps_pad l (size_then l found.cuts.items) ≡ true
-    keeps f = keeps_where b l h.at h.chunk of body n body_same (pad_stays (sym told.fits ∙ f))
+    keeps f = keeps_where b l h.at h.chunk of body n body_same (hdrl_pad e h plain is kids_are (sym told.fits ∙ f))
 
     pub fit_is : (found.fits && keeps_pad l (size_then l found.cuts.items)) ≡ list_all (strl_fits e) (sites_in e h)
     fit_is = go found.fits refl ∙ told.fits

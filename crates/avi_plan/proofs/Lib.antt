@@ -1,4 +1,3 @@
-pub mod Misfits
 pub mod Heads
 pub mod Ranges
 pub mod Made

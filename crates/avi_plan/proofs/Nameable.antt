@@ -1,13 +1,13 @@
 -- What an edit of names makes of `hdrl`, as it is told.
-use Rattle.std.proofs.Common.{◌≡◌, ◌∙◌, ◌⊎◌, ℕ, ◌+◌, ◌%◌, ◌^◌, ◌≤◌, ◌<◌, Bool, true, false, cond, List, [], ◌∷◌, ◌++◌, length, map, min, refl, sym, ap, subst, arith, inl, inr, append-nil, length-append}
-use Rattle.std.specs.Prelude.{◌&&◌, codes}
+use Rattle.std.proofs.Common.{◌≡◌, ◌∙◌, ◌⊎◌, ℕ, ◌+◌, ◌%◌, ◌≤◌, Bool, true, false, cond, List, [], ◌∷◌, ◌++◌, length, map, min, refl, sym, ap, subst, arith, inl, inr, append-nil, length-append}
+use Rattle.std.specs.Prelude.{◌&&◌}
 use Rattle.std.specs.List.{AllByRecursion, flat_map, list_all}
 use Rattle.std.proofs.lemmas.Bool.{and_parts}
 use Rattle.me_bytes.specs.Bytes.{IsBytes}
 use Rattle.part_tree.specs.declared.names.Span.{Span}
-use Rattle.container_model.specs.Chunk.{Chunk, Run, spell, spell_all}
+use Rattle.container_model.specs.Chunk.{Chunk, spell}
 use Rattle.container_model.specs.Items.{is_nil}
-use Rattle.container_model.specs.Stood.{Stood, bare, first_of, only, stood}
+use Rattle.container_model.specs.Stood.{Stood, bare, only, stood}
 use Rattle.container_model.specs.Units.{lacks_pad}
 use Rattle.carrier_model.specs.Cells.{counted}
 use Rattle.carrier_model.specs.Info.{list_run}
@@ -16,14 +16,11 @@ use Rattle.unit_plan.specs.Sized.{gained, lost}
 use Rattle.unit_plan.specs.declared.cut.CutAt.{CutAt}
 use Rattle.unit_plan.proofs.Spans.{ascend_high, lost_low}
 use Rattle.avi_model.specs.Avi.{Avi, avi_of, kids, strls}
-use Rattle.avi_model.specs.Named.{Names, Site, children_named, ends_file, ends_list, hdrl_from, hdrl_named, hdrl_site, is_hdrl, is_named, is_strl, kid_named, kids_named, named, names_after, new_names, sites_from, sites_in, strl_named}
+use Rattle.avi_model.specs.Named.{Names, Site, ends_file, ends_list, hdrl_from, hdrl_named, hdrl_site, is_hdrl, is_named, is_strl, new_names, sites_from, sites_in}
 use Rattle.avi_model.specs.RoomAfter.{hdrl_patches, strl_fits}
+use Rattle.avi_model.specs.Streams.{hdrl_parts, kids_parts, stream_parts, strl_laid, strl_parts}
 use Rattle.avi_model.specs.Support.{count_kids}
-use Rattle.avi_model.proofs.Children.{AreChildren, behind_one, kids_of}
 use Rattle.avi_model.proofs.NamesHdrl.{FirstHdrl}
-use Rattle.avi_model.proofs.NamesSet.{kids_small, supported_children}
-use Rattle.avi_model.proofs.Respelled.{list_type, strl_run}
-use Rattle.avi_model.proofs.Streams.{AreKids, IsKid, hdrl_run, kid_strl, laid_small, spell_long}
 use Rattle.avi_plan.specs.Form.{IsSoundForm}
 use Rattle.avi_plan.specs.Lists.{IsSoundList, keeps_pad, lacks_then, len_then, list_cuts, size_then}
 use Rattle.avi_plan.specs.NamesAt.{AreNames, StandNames, hdrl_needed}
@@ -39,22 +36,17 @@ use Rattle.avi_plan.proofs.Sited.{hdrl_found, strl_sites}
 -- ---- how many chunks the streams' lists have
 
 module _ (e : Names) where
-  kid_counts : (t : Bool) (n at to : ℕ) (c : Chunk) → IsKid c → length (spell (kid_named e t n c)) < 2 ^ 32 → (news olds : List Stood)
-      → count_kids (cond (is_strl (bare (kid_named e t n c))) (record { at = to; chunk = bare (kid_named e t n c) } ∷ news) news) + count_was (cond (is_strl c && is_named e n) (record { at = at; ends = t; stream = n; chunk = c } ∷ []) []) + count_kids olds
-      ≡ count_kids (cond (is_strl c) (record { at = at; chunk = bare c } ∷ olds) olds) + count_now e (cond (is_strl c && is_named e n) (record { at = at; ends = t; stream = n; chunk = c } ∷ []) []) + count_kids news
-  kid_counts t n at to c h lt news olds =
-      ap (λ (u : Bool). count_kids (cond u (record { at = to; chunk = bare (kid_named e t n c) } ∷ news) news) + count_was (cond (is_strl c && is_named e n) (record { at = at; ends = t; stream = n; chunk = c } ∷ []) []) + count_kids olds) (kid_strl e t n c h)
-      ∙ go (is_strl c) refl (is_named e n) lt
+  kid_counts : (t : Bool) (n at : ℕ) (c : Chunk) (olds : List Stood)
+      → cond (is_strl c) (strl_parts e t n c) 0 + count_was (cond (is_strl c && is_named e n) (record { at = at; ends = t; stream = n; chunk = c } ∷ []) []) + count_kids olds
+      ≡ count_kids (cond (is_strl c) (record { at = at; chunk = bare c } ∷ olds) olds) + count_now e (cond (is_strl c && is_named e n) (record { at = at; ends = t; stream = n; chunk = c } ∷ []) [])
+  kid_counts t n at c olds = go (is_strl c) (is_named e n)
     where
-      go : (u : Bool) → is_strl c ≡ u → (v : Bool) → length (spell (cond (u && v) (strl_named t (new_names e n) c) c)) < 2 ^ 32
-          → count_kids (cond u (record { at = to; chunk = bare (cond (u && v) (strl_named t (new_names e n) c) c) } ∷ news) news) + count_was (cond (u && v) (record { at = at; ends = t; stream = n; chunk = c } ∷ []) []) + count_kids olds
-          ≡ count_kids (cond u (record { at = at; chunk = bare c } ∷ olds) olds) + count_now e (cond (u && v) (record { at = at; ends = t; stream = n; chunk = c } ∷ []) []) + count_kids news
-      go true i true lt =
-          let is = h.opens i in
-          let run = strl_run t (names_after e n []) c is (laid_small e t n c is lt) in
-          omega (arith, ap (λ (x : Run). length x.chunks) run)
-      go true i false lt = omega arith
-      go false i v lt = omega arith
+      go : (u v : Bool)
+          → cond u (length (cond v (strl_laid t (new_names e n) c) (list_run c).chunks)) 0 + count_was (cond (u && v) (record { at = at; ends = t; stream = n; chunk = c } ∷ []) []) + count_kids olds
+          ≡ count_kids (cond u (record { at = at; chunk = bare c } ∷ olds) olds) + count_now e (cond (u && v) (record { at = at; ends = t; stream = n; chunk = c } ∷ []) [])
+      go true true = omega arith
+      go true false = omega arith
+      go false v = omega arith
 
   was-append : (a c : List Site) → count_was (a ++ c) ≡ count_was a + count_was c
   was-append [] c = omega arith
@@ -64,48 +56,30 @@ module _ (e : Names) where
   now-append [] c = omega arith
   now-append (s ∷ a) c = omega (arith, now-append a c)
 
-  kids_count : (t : Bool) (n at to : ℕ) (cs : List Chunk) → AreKids cs → length (spell_all (kids_named e t n cs)) < 2 ^ 32
-      → count_kids (only is_strl (stood to (kids_named e t n cs))) + count_was (sites_from e t n at cs) ≡ count_kids (only is_strl (stood at cs)) + count_now e (sites_from e t n at cs)
-  kids_count t n at to [] h lt = refl
-  kids_count t n at to (c ∷ cs) h lt =
+  kids_count : (t : Bool) (n at : ℕ) (cs : List Chunk) → kids_parts e t n cs + count_was (sites_from e t n at cs) ≡ count_kids (only is_strl (stood at cs)) + count_now e (sites_from e t n at cs)
+  kids_count t n at [] = refl
+  kids_count t n at (c ∷ cs) =
       let u = t && is_nil cs in
       let k = counted is_strl n c in
-      let new = kid_named e u n c in
-      let more = kids_named e t k cs in
+      let next = at + length (spell c) in
       let here : List Site = cond (is_strl c && is_named e n) (record { at = at; ends = u; stream = n; chunk = c } ∷ []) [] in
-      let there = sites_from e t k (at + length (spell c)) cs in
-      let long = length-append (spell new) (spell_all more) in
-      omega (
-        arith,
-        kid_counts u n at to c h.0 (omega (arith, lt, long)) (only is_strl (stood (to + length (spell new)) more)) (only is_strl (stood (at + length (spell c)) cs)),
-        kids_count t k (at + length (spell c)) (to + length (spell new)) cs h.1 (omega (arith, lt, long)),
-        was-append here there,
-        now-append here there,
-      )
+      let there = sites_from e t k next cs in
+      omega (arith, kid_counts u n at c (only is_strl (stood next cs)), kids_count t k next cs, was-append here there, now-append here there)
 
-  -- the first hdrl then
-  named_found : (t : Bool) (at to : ℕ) (cs : List Chunk) (s : Site) → AreChildren cs → hdrl_from t at cs ≡ s ∷ [] → (p : ℕ) × (first_of (only is_hdrl (stood to (children_named e t cs))) ≡ record { at = p; chunk = bare (hdrl_named e s.ends s.chunk) } ∷ [])
-  named_found t at to [] s h i = absurd cc
-  named_found t at to (c ∷ cs) s h i = go (is_hdrl c) refl i (λ j k. named_found t (at + length (spell c)) (to + length (spell c)) cs s (behind_one c cs h j) k)
+  -- those of the first hdrl
+  first_parts : (t : Bool) (at : ℕ) (cs : List Chunk) (s : Site) → hdrl_from t at cs ≡ s ∷ [] → hdrl_parts e t cs ≡ kids_parts e (s.ends && ends_list s.chunk) 0 (list_run s.chunk).chunks
+  first_parts t at [] s i = absurd cc
+  first_parts t at (c ∷ cs) s i = go (is_hdrl c) i (λ k. first_parts t (at + length (spell c)) cs s k)
     where
-      go : (u : Bool) → is_hdrl c ≡ u → cond u (record { at = at; ends = t && is_nil cs; stream = 0; chunk = c } ∷ []) (hdrl_from t (at + length (spell c)) cs) ≡ s ∷ []
-          → (is_hdrl c ≡ false → hdrl_from t (at + length (spell c)) cs ≡ s ∷ [] → (p : ℕ) × (first_of (only is_hdrl (stood (to + length (spell c)) (children_named e t cs))) ≡ record { at = p; chunk = bare (hdrl_named e s.ends s.chunk) } ∷ []))
-          → (p : ℕ) × (first_of (only is_hdrl (stood to (cond u (hdrl_named e (t && is_nil cs) c ∷ cs) (c ∷ children_named e t cs)))) ≡ record { at = p; chunk = bare (hdrl_named e s.ends s.chunk) } ∷ [])
-      go true j k again =
-          let o = h.1.0 j in
-          let new = hdrl_named e (t && is_nil cs) c in
-          let y : Stood = record { at = to; chunk = bare new } in
-          let more = only is_hdrl (stood (to + length (spell new)) cs) in
-          let typed : is_hdrl new ≡ true = list_type (codes "hdrl") c (kids_of e (t && is_nil cs) c) o.0 ∙ j in
-          (to, ap (λ (b : Bool). first_of (cond b (y ∷ more) more)) typed ∙ ap first k)
-        where
-          first : List Site → List Stood
-          first [] = []
-          first (x ∷ xs) = record { at = to; chunk = bare (hdrl_named e x.ends x.chunk) } ∷ []
-      go false j k again =
-          let z = again j k in
-          let more = only is_hdrl (stood (to + length (spell c)) (children_named e t cs)) in
-          (z.0, ap (λ (b : Bool). first_of (cond b (record { at = to; chunk = bare c } ∷ more) more)) j ∙ z.1)
+      kids_in : List Site → ℕ
+      kids_in [] = 0
+      kids_in (x ∷ xs) = kids_parts e (x.ends && ends_list x.chunk) 0 (list_run x.chunk).chunks
+
+      go : (u : Bool) → cond u (record { at = at; ends = t && is_nil cs; stream = 0; chunk = c } ∷ []) (hdrl_from t (at + length (spell c)) cs) ≡ s ∷ []
+          → (hdrl_from t (at + length (spell c)) cs ≡ s ∷ [] → hdrl_parts e t cs ≡ kids_parts e (s.ends && ends_list s.chunk) 0 (list_run s.chunk).chunks)
+          → cond u (kids_parts e ((t && is_nil cs) && ends_list c) 0 (list_run c).chunks) (hdrl_parts e t cs) ≡ kids_parts e (s.ends && ends_list s.chunk) 0 (list_run s.chunk).chunks
+      go true k again = ap kids_in k
+      go false k again = again k
 
 -- ---- all of it
 
@@ -124,17 +98,14 @@ module _ (b : List ℕ) (bytes : IsBytes b) (e : Names) (f : FormAt) (hdrl : Spa
       let found = hdrl_found (ends_file a) 12 a.children h (site_is b bytes e f hdrl streams tells) in
       ap (λ (xs : List Stood). count_kids (only is_strl (flat_map kids xs))) found ∙ ap (λ (xs : List Stood). count_kids (only is_strl xs)) (append-nil (kids (record { at = h.at; chunk = bare first.hdrl })))
 
-  parts : AllByRecursion (λ (s : Site). length (spell (hdrl_named e s.ends s.chunk)) < 2 ^ 32) (hdrl_site (avi_of b)) → count_kids (strls (named (avi_of b) e)) + count_was (sites_in e h) ≡ count_kids (strls (avi_of b)) + count_now e (sites_in e h)
-  parts small =
-      let new = hdrl_named e h.ends first.hdrl in
-      let lt : length (spell new) < 2 ^ 32 = (subst (AllByRecursion (λ (s : Site). length (spell (hdrl_named e s.ends s.chunk)) < 2 ^ 32)) (site_is b bytes e f hdrl streams tells) small).0 in
-      let few = kids_small e h.ends first.hdrl first.opens.0 (omega (arith, lt, spell_long new)) in
-      let run = hdrl_run e h.ends first.hdrl first.opens.0 first.opens.1 few in
-      let found = named_found e (ends_file a) 12 12 a.children h (supported_children b bytes tells.form.supported) (site_is b bytes e f hdrl streams tells) in
-      let then : count_kids (strls (named a e)) ≡ count_kids (only is_strl (stood (found.0 + 12) (kids_of e h.ends first.hdrl)))
-      = ap (λ (xs : List Stood). count_kids (only is_strl (flat_map kids xs))) found.1 ∙ ap (λ (xs : List Stood). count_kids (only is_strl xs)) (append-nil (kids (record { at = found.0; chunk = bare new })))
-      ∙ ap (λ (x : Run). count_kids (only is_strl (stood (found.0 + 12) x.chunks))) run in
-      omega (arith, then, old_strls, kids_count e (h.ends && ends_list first.hdrl) 0 (h.at + 12) (found.0 + 12) (list_run first.hdrl).chunks first.opens.1 few)
+  parts : stream_parts (avi_of b) e + count_was (sites_in e h) ≡ count_kids (strls (avi_of b)) + count_now e (sites_in e h)
+  parts =
+      omega (
+        arith,
+        first_parts e (ends_file a) 12 a.children h (site_is b bytes e f hdrl streams tells),
+        old_strls,
+        kids_count e (h.ends && ends_list first.hdrl) 0 (h.at + 12) (list_run first.hdrl).chunks,
+      )
 
   -- the lists of all streams
   abbrev pub the_sites : List Site
@@ -183,7 +154,7 @@ module _ (b : List ℕ) (bytes : IsBytes b) (e : Names) (f : FormAt) (hdrl : Spa
           fits = fit ∙ ap (list_all (strl_fits e)) (sym (append-nil (sites_in e h))) ∙ ap (λ (ss : List Site). list_all (strl_fits e) (flat_map (sites_in e) ss)) (sym one);
           lacks = ap (map (λ (s : Site). lacks_pad (hdrl_named e s.ends s.chunk))) one ∙ ap (λ (t : Bool). t ∷ []) (lacks_it e h p o.0 o.1 b l sound of within found named_told ascend ∙ sym lacks);
           len = ap (map (λ (s : Site). length (spell (hdrl_named e s.ends s.chunk)))) one ∙ ap (λ (k : ℕ). k ∷ []) (len_is e h p o.0 o.1 b l sound of within found named_told ascend ∙ sym len);
-          parts = λ small. omega (arith, parts small, was, now, named_told.was, named_told.now);
+          parts = omega (arith, parts, was, now, named_told.was, named_told.now);
         }
 
 -- ---- by numbers alone

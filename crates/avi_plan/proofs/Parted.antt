@@ -1,12 +1,10 @@
 -- The new file has the parts that the planner counts, and its lists of fields are those of the edit.
-use Rattle.std.proofs.Common.{◌≡◌, ◌∙◌, ◌⊎◌, ℕ, ◌+◌, ◌^◌, ◌<◌, Bool, true, false, cond, ltb, List, [], ◌∷◌, ◌++◌, length, map, Option, Some, refl, sym, ap, subst, arith, inl, inr}
-use Rattle.std.specs.Prelude.{◌&&◌, codes}
+use Rattle.std.proofs.Common.{◌≡◌, ◌∙◌, ◌⊎◌, ℕ, ◌+◌, ◌^◌, Bool, true, false, cond, ltb, List, [], ◌∷◌, ◌++◌, length, map, Option, Some, refl, sym, ap, subst, arith, inl, inr}
+use Rattle.std.specs.Prelude.{codes}
 use Rattle.std.specs.List.{AllByRecursion, flat_map}
 use Rattle.me_bytes.specs.Bytes.{IsBytes}
 use Rattle.part_tree.specs.Large.{Size, first_above, limited}
 use Rattle.container_model.specs.Chunk.{Chunk, spell}
-use Rattle.container_model.specs.Items.{is_nil}
-use Rattle.container_model.specs.Splice.{shift}
 use Rattle.container_model.specs.Stood.{Stood, bare, only, stood}
 use Rattle.container_model.specs.Tests.{first}
 use Rattle.container_model.specs.Units.{Cell, edited, gap, kept, lay, live, shut, units}
@@ -16,24 +14,24 @@ use Rattle.carrier_model.specs.Lists.{lists_act}
 use Rattle.carrier_model.proofs.Cells.{live_acted}
 use Rattle.carrier_model.proofs.Info.{padding_no_list}
 use Rattle.opendml_index.specs.Index.{How, move}
-use Rattle.avi_model.specs.After.{Changes, avi_after, children_after, goes, joined, list_cuts}
-use Rattle.avi_model.specs.Avi.{Avi, avi_of, hdrls, others_at, strls}
+use Rattle.avi_model.specs.After.{Changes, avi_after, children_after, goes, joined, parts_after, renumbered_avi}
+use Rattle.avi_model.specs.Avi.{Avi, avi_of, form_of, hdrls, others_at}
 use Rattle.avi_model.specs.Index.{writes}
 use Rattle.avi_model.specs.Large.{at_most}
-use Rattle.avi_model.specs.Named.{Names, Site, cell_of, children_named, ends_file, hdrl_from, hdrl_named, named}
+use Rattle.avi_model.specs.Named.{cell_of, children_named, ends_file, named}
 use Rattle.avi_model.specs.NewFile.{Items, new_cells, new_children}
 use Rattle.avi_model.specs.NewFile.{home as behind_hdrl}
-use Rattle.avi_model.specs.Support.{Supported, count_kids, infos, list_limit, parts}
+use Rattle.avi_model.specs.Streams.{hdrl_parts, stream_parts}
+use Rattle.avi_model.specs.Support.{Supported, count_kids, infos, list_limit}
 use Rattle.avi_model.proofs.Alike.{Alike, edit_alike}
 use Rattle.avi_model.proofs.Among.{all_among}
-use Rattle.avi_model.proofs.Children.{AreChildren, HdrlSmall}
+use Rattle.avi_model.proofs.Children.{AreChildren}
 use Rattle.avi_model.proofs.Clear.{further_open}
 use Rattle.avi_model.proofs.Cuts.{ends_same}
 use Rattle.avi_model.proofs.Edit.{seen, solid}
 use Rattle.avi_model.proofs.Frames.{again as read_again, alone}
 use Rattle.avi_model.proofs.JoinedCuts.{chunks_again}
-use Rattle.avi_model.proofs.JoinedFew.{kids_go}
-use Rattle.avi_model.proofs.JoinedLaid.{hdrls_listed, strls_listed}
+use Rattle.avi_model.proofs.JoinedParts.{heads_are}
 use Rattle.avi_model.proofs.Levels.{Ended, further_whole}
 use Rattle.avi_model.proofs.Lies.{Lies}
 use Rattle.avi_model.proofs.NamedAlike.{children_alike}
@@ -42,25 +40,12 @@ use Rattle.avi_model.proofs.NamesSet.{supported_children}
 use Rattle.avi_model.proofs.NamesStay.{ChildrenStay, RunStays}
 use Rattle.avi_model.proofs.Read.{others_place, renewed_avi}
 use Rattle.avi_model.proofs.Sound.{ended, writes_lie}
-use Rattle.avi_model.proofs.Streams.{spell_long}
 use Rattle.unit_plan.specs.Shapes.{parts_in}
 use Rattle.avi_plan.specs.Comes.{bodies, list_checks}
 use Rattle.avi_plan.specs.Row.{part_count}
 use Rattle.avi_plan.proofs.Coming.{counts_parts}
-use Rattle.avi_plan.proofs.Counting.{alike_shapes, heads_again, kids_both, named_heads, old_heads, others_count, parts_are, shapes_count, small_again, strls_again}
+use Rattle.avi_plan.proofs.Counting.{alike_shapes, heads_again, others_count, parts_are, shapes_count, streams_again}
 use Rattle.avi_plan.proofs.Swapped.{Swap}
-
--- hdrl is short enough for its size
-pub small_of : (e : Names) (last : Bool) (at : ℕ) (cs : List Chunk) → AllByRecursion (λ (s : Site). length (spell (hdrl_named e s.ends s.chunk)) < 2 ^ 32) (hdrl_from last at cs) → HdrlSmall e last cs
-small_of e last at [] h = tt
-small_of e last at (c ∷ cs) h = (
-  (λ i.
-      let z = subst (λ (t : Bool). AllByRecursion (λ (s : Site). length (spell (hdrl_named e s.ends s.chunk)) < 2 ^ 32) (cond t (record { at = at; ends = last && is_nil cs; stream = 0; chunk = c } ∷ []) (hdrl_from last (at + length (spell c)) cs))) i h in
-      omega (arith, z.0, spell_long (hdrl_named e (last && is_nil cs) c))),
-  (λ i.
-      small_of e last (at + length (spell c)) cs
-      (subst (λ (t : Bool). AllByRecursion (λ (s : Site). length (spell (hdrl_named e s.ends s.chunk)) < 2 ^ 32) (cond t (record { at = at; ends = last && is_nil cs; stream = 0; chunk = c } ∷ []) (hdrl_from last (at + length (spell c)) cs))) i h)),
-)
 
 -- ---- the lists of fields that cells leave
 
@@ -183,43 +168,25 @@ module _ (b : List ℕ) (bytes : IsBytes b) (s : Supported b) (c : Changes) wher
       ap (λ (t : Bool). parts_in part_count (lay (riff_fill t) (units shut (new_cells nb c.infos)))) (ends_same ws a)
       ∙ shapes_count part_count counts_parts (ends_file a) (new_cells nb c.infos) (new_cells na c.infos) (alike_shapes (new_cells nb c.infos) (new_cells na c.infos) edited_alike)
 
-  others_parts : count_kids (others_at (joined rb c)) ≡ count_kids (others_at a)
-  others_parts =
-      others_count ws (others_place a) (length (spell (Rattle.avi_model.specs.Avi.form_of (joined rb c)))) a.others
+  others_same : count_kids (others_at rb) ≡ count_kids (others_at a)
+  others_same =
+      others_count ws (others_place a) (length (spell (form_of rb))) a.others
       (all_among (λ (x : Stood). RunStays ws x.at x.chunk) (others_at a) (λ x i. run_stays ws x (further_whole a g x i).head (further_open a g ws lie x i)))
 
-  module _ (small : HdrlSmall c.names (ends_file (avi_of b)) (avi_of b).children) where
-    small_rb : HdrlSmall c.names (ends_file (renewed_avi (writes (move (goes (avi_of b) c)) b) (avi_of b))) (renewed_avi (writes (move (goes (avi_of b) c)) b) (avi_of b)).children
-    small_rb = subst (λ (t : Bool). HdrlSmall c.names t rb.children) (sym (ends_same ws a)) (small_again ws c.names (ends_file a) 12 a.children stay small)
+  heads_same : count_kids (hdrls rb) ≡ count_kids (hdrls a)
+  heads_same = heads_are 12 rb.children ∙ heads_again ws c.names 12 a.children stay ∙ sym (heads_are 12 a.children)
 
-    small_same : HdrlSmall c.names (ends_file (avi_of b)) (renewed_avi (writes (move (goes (avi_of b) c)) b) (avi_of b)).children
-    small_same = small_again ws c.names (ends_file a) 12 a.children stay small
+  streams_same : stream_parts rb c.names ≡ stream_parts a c.names
+  streams_same = ap (λ (t : Bool). hdrl_parts c.names t rb.children) (ends_same ws a) ∙ streams_again ws c.names (ends_file a) 12 a.children stay
 
-    hdrl_parts : count_kids (hdrls (joined rb c)) ≡ count_kids (hdrls a)
-    hdrl_parts =
-        ap count_kids (hdrls_listed b bytes s c small_rb).0 ∙ kids_go (shift (list_cuts a c)) (hdrls nb)
-        ∙ (named_heads ws c.names (ends_file rb) 12 rb.children new_children_are small_rb).0
-        ∙ heads_again ws c.names 12 a.children stay ∙ sym (old_heads ws c.names 12 a.children)
-
-    strl_parts : count_kids (strls (joined rb c)) ≡ count_kids (strls na)
-    strl_parts =
-        ap count_kids (strls_listed b bytes s c small_rb).0 ∙ kids_go (shift (list_cuts a c)) (strls nb)
-        ∙ ap (λ (t : Bool). count_kids (strls (record rb { children = children_named c.names t rb.children }))) (ends_same ws a)
-        ∙ (named_heads ws c.names (ends_file a) 12 rb.children new_children_are small_same).1
-        ∙ strls_again ws c.names (ends_file a) 12 a.children stay old_children new_children_are small small_same
-        ∙ sym (named_heads ws c.names (ends_file a) 12 a.children old_children small).1
-
-    pub parts_told : parts (avi_after b c) ≡ parts_in part_count (children_after a c) + (count_kids (hdrls a) + (count_kids (strls na) + count_kids (others_at a)))
-    parts_told =
-        let X = joined rb c in
-        ap parts after_is
-        ∙ omega (
-          arith,
-          kids_both (hdrls X) (strls X ++ infos X),
-          kids_both (strls X) (infos X),
-          hdrl_parts,
-          strl_parts,
-          others_parts,
-          form_parts,
-          parts_are 12 (children_after rb c),
-        )
+  pub parts_told : parts_after (renumbered_avi b c) c ≡ parts_in part_count (children_after a c) + (count_kids (hdrls a) + (stream_parts a c.names + count_kids (others_at a)))
+  parts_told =
+      ap (λ (x : Avi). parts_after x c) (read_again b bytes s how)
+      ∙ omega (
+        arith,
+        heads_same,
+        streams_same,
+        others_same,
+        form_parts,
+        parts_are 12 (children_after rb c),
+      )

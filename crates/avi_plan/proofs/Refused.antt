@@ -21,7 +21,7 @@ use Rattle.avi_model.specs.Large.{Check, at_most, entry_checks, offset_checks, o
 use Rattle.avi_model.proofs.Relocated.{number_32}
 use Rattle.avi_plan.specs.Changes.{refuse, refused}
 use Rattle.avi_plan.specs.Heads.{head_in}
-use Rattle.avi_plan.specs.Misfits.{misfit_rows, misfits}
+use Rattle.table_misfits.specs.Misfits.{misfit_rows, misfits}
 use Rattle.avi_plan.specs.Refusals.{table_checks}
 use Rattle.avi_plan.specs.Tables.{IsTabled, Tabled, changes_of, index, index_changes, old, old_changes, standard_changes}
 use Rattle.avi_plan.proofs.Indexed.{rows_stand}

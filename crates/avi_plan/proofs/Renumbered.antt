@@ -14,7 +14,7 @@ use Rattle.avi_plan.specs.Changes.{TellsFault, refused, refused_by}
 use Rattle.avi_plan.specs.Tables.{IsTabled, Tabled, changes_of, table_at}
 use Rattle.avi_plan.specs.declared.table.Change.{Change}
 use Rattle.avi_plan.specs.declared.table.TableAt.{TableAt}
-use Rattle.avi_plan.proofs.Misfits.{or_assoc}
+use Rattle.table_misfits.proofs.Misfits.{or_assoc}
 
 -- ---- what is told of changes that follow others
 

@@ -31,7 +31,7 @@ use Rattle.avi_names.specs.Names.{chunks_of}
 use Rattle.avi_model.specs.Named.{Names, Site, cell_of, ends_list, list_with, names_after, new_names, respelled, strl_fill, strl_named, strl_pieces}
 use Rattle.avi_model.proofs.Edit.{cells_all}
 use Rattle.avi_model.proofs.Lays.{units_exactly}
-use Rattle.avi_model.proofs.NamesLay.{list_no_pad}
+use Rattle.avi_model.proofs.NamesLay.{strl_pad}
 use Rattle.avi_model.proofs.Respelled.{IsList, all_names, laid_chunks, list_length, list_plain, made_names, respelled_body, strl_plain}
 use Rattle.avi_model.proofs.Streams.{none_after}
 use Rattle.avi_model.proofs.StreamsGo.{was_is}
@@ -42,39 +42,6 @@ use Rattle.avi_plan.specs.declared.list.ListAt.{ListAt}
 use Rattle.avi_plan.proofs.Around.{IsListOf, around_is, around_patches, keeps_where, spelled_long}
 use Rattle.avi_plan.proofs.Grown.{grow, lose, slots_grow, told_grow, told_lose}
 use Rattle.avi_plan.proofs.Streamed.{OneTold}
-
--- ---- chunks with their pads are even
-
-even_one : (c : Chunk) → IsPlain c → IsPadded c → length (spell c) % 2 ≡ 0
-even_one c p h =
-    let pad : length c.pad ≡ length c.body % 2 = h ∙ ap (λ (f : Form). pad_len f (length c.body)) p.form_is in
-    omega (arith, pad, spelled_long c p.form_is p.id_len)
-
-pub even_all : (cs : List Chunk) → ArePlain cs → ArePadded cs → length (spell_all cs) % 2 ≡ 0
-even_all [] p h = refl
-even_all (c ∷ cs) p h = omega (arith, even_one c p.0 h.0, even_all cs p.1 h.1, length-append (spell c) (spell_all cs))
-
--- where they are even together and nothing follows them, each has its pad
-pub all_padded : (cs : List Chunk) → ArePlain cs → Pads cs [] → length (spell_all cs) % 2 ≡ 0 → ArePadded cs
-all_padded [] p h e = tt
-all_padded (c ∷ cs) p h e = go h.0 (λ k. all_padded cs p.1 h.1 k)
-  where
-    long : length (spell_all (c ∷ cs)) ≡ length (spell c) + length (spell_all cs)
-    long = length-append (spell c) (spell_all cs)
-
-    len : pad_len c.form (length c.body) ≡ length c.body % 2
-    len = ap (λ (f : Form). pad_len f (length c.body)) p.0.form_is
-
-    go : PadStands c.form (length c.body) c.pad (spell_all cs ++ []) → (length (spell_all cs) % 2 ≡ 0 → ArePadded cs) → ArePadded (c ∷ cs)
-    go (inl s) again = (s, again (omega (arith, e, long, even_one c p.0 s)))
-    go (inr s) again =
-        let none = (none_after cs [] s.1).0 in
-        let zero : length (spell_all cs) ≡ 0 = ap (λ (x : List Chunk). length (spell_all x)) none in
-        (omega (arith, s.0, len, spelled_long c p.0.form_is p.0.id_len, long, zero, e), subst ArePadded (sym none) tt)
-
--- a chunk with another body keeps its pad where the body stays as long
-pub same_pad : (c : Chunk) (b : List ℕ) → length b ≡ length c.body → (respelled c b).pad ≡ c.pad
-same_pad c b e = ap (λ (t : Bool). (cond t (record c { body = b }) (padded (record c { body = b }))).pad) (eq-eqb (length b % 2) (length c.body % 2) (ap (λ (n : ℕ). n % 2) e))
 
 parts_one : (cs : List Chunk) → parts_in one cs ≡ length cs
 parts_one [] = refl
@@ -129,35 +96,6 @@ module _ (b : List ℕ) (e : Names) (end len : ℕ) (s : Site) (l : ListAt) (sou
   body_long : length s.chunk.body ≡ 4 + (length (spell_all (list_run s.chunk).chunks) + length (list_run s.chunk).left)
   body_long = omega (arith, is.long, ap length is.spelled, length-append (spell_all kids) left, length-drop 4 s.chunk.body)
 
-  old : spell_all (list_run s.chunk).chunks ≡ flat_map old_bytes (strl_pieces (new_names e s.stream) s.chunk)
-  old = let xs = name_cells (made_names vs) (map cell_of kids) in sym (units_old shut xs ∙ ap spell_all (was_is s.ends vs s.chunk plain is))
-
-  -- it keeps its pad where its units fit
-  pad_stays : units_fit (s.ends && ends_list s.chunk) (strl_pieces (new_names e s.stream) s.chunk) ≡ true → new.pad ≡ s.chunk.pad
-  pad_stays fit = go (s.ends && ends_list s.chunk) refl
-    where
-      exact : (s.ends && ends_list s.chunk) ≡ false → length (spell_all laid) ≡ length (spell_all kids)
-      exact n =
-          let ps = strl_pieces (new_names e s.stream) s.chunk in
-          let fill = strl_fill s.ends s.chunk in
-          omega (arith, (units_exactly fill last_slot (s.at + 12) ps n (units_bring shut (name_cells (new_names e s.stream) (map cell_of kids)) tt) (riff_fits last_slot ps fit)).long, ap length old)
-
-      padded_then : ArePadded (list_run s.chunk).chunks → ArePadded (laid_chunks s.ends (names_after e s.stream []) s.chunk)
-      padded_then h =
-          lay_all IsPadded (strl_fill s.ends s.chunk) (record { on_pads = λ d k. length-replicate (pad_len d.form (length d.body)) 0; on_fill = λ last slot k. fill_all IsPadded (λ x. made_padded (codes "JUNK") x) (s.ends && ends_list s.chunk) last slot k }) shut
-          (name_cells (made_names vs) (map cell_of kids)) tt (cells_names IsPadded (made_names vs) (all_names IsPadded (λ x. made_padded (codes "strn") x) vs) (map cell_of kids) (cells_all IsPadded kids h))
-
-      go : (t : Bool) → (s.ends && ends_list s.chunk) ≡ t → new.pad ≡ s.chunk.pad
-      go false n = same_pad s.chunk body (ap length (sym (respelled_body s.chunk body)) ∙ omega (arith, list_length s.chunk laid is, exact n, body_long))
-      go true t =
-          let p = and_parts s.ends (ends_list s.chunk) t in
-          let q = and_parts (is_nil left) (is_nil s.chunk.pad) p.1 in
-          let no_left : left ≡ [] = none_is left q.0 in
-          let no_pad : s.chunk.pad ≡ [] = none_is s.chunk.pad q.1 in
-          let even : length (spell_all kids) % 2 ≡ 0 → length (spell_all laid) % 2 ≡ 0
-          = λ h. even_all laid (strl_plain s.ends vs s.chunk is) (padded_then (all_padded kids (list_plain s.chunk) (subst (λ (x : List ℕ). Pads kids x) no_left is.pads) h)) in
-          list_no_pad s.chunk laid plain is s.at [] no_left no_pad even ∙ sym no_pad
-
   module _ (u : UnitCuts) (inside : len ≤ length b) (within : l.next ≤ len) (ascend : SpansAscend (l.at + 12) u.cuts.items (l.at + 8 + l.size))
       (comes : outcome_in b u ≡ cells_outcome one (s.ends && ends_list s.chunk) (s.at + 12) (name_cells (new_names e s.stream) (map cell_of (list_run s.chunk).chunks))) where
     abbrev ks : List CutAt
@@ -195,7 +133,7 @@ module _ (b : List ℕ) (e : Names) (end len : ℕ) (s : Site) (l : ListAt) (sou
     body_same = long ∙ ap length (respelled_body s.chunk body)
 
     keeps : u.fits ≡ true → keeps_pad l (size_then l u.cuts.items) ≡ true
-    keeps f = keeps_where b l s.at s.chunk of body n body_same (pad_stays (sym fits_are ∙ f))
+    keeps f = keeps_where b l s.at s.chunk of body n body_same (strl_pad e s plain is (sym fits_are ∙ f))
 
     fit_is : (u.fits && keeps_pad l (size_then l u.cuts.items)) ≡ u.fits
     fit_is = go u.fits refl

@@ -13,7 +13,7 @@ use Rattle.container_model.specs.Splice.{Cut}
 use Rattle.container_model.specs.Tests.{or_else}
 use Rattle.unit_plan.specs.Cuts.{cut_in}
 use Rattle.unit_plan.specs.declared.cut.CutAt.{CutAt}
-use Rattle.avi_plan.specs.Misfits.{misfits}
+use Rattle.table_misfits.specs.Misfits.{misfits}
 use Rattle.avi_plan.specs.declared.table.Change.{Change}
 use Rattle.avi_plan.specs.declared.table.Change.TheVariants as change
 

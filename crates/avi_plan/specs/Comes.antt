@@ -8,7 +8,7 @@ use Rattle.container_model.specs.Chunk.{Chunk}
 use Rattle.container_model.specs.Stood.{Stood}
 use Rattle.container_model.specs.Tests.{first}
 use Rattle.carrier_model.specs.Info.{is_type}
-use Rattle.avi_model.specs.After.{Changes, all_changes, avi_after, children_after, joined_file}
+use Rattle.avi_model.specs.After.{Changes, all_changes, avi_after, children_after, joined_file, parts_after, renumbered_avi}
 use Rattle.avi_model.specs.Avi.{avi_of, inner}
 use Rattle.avi_model.specs.JoinedSplices.{joined_cuts}
 use Rattle.avi_model.specs.Kind.{avi_kind}
@@ -16,7 +16,7 @@ use Rattle.avi_model.specs.After.{is_idle}
 use Rattle.avi_model.specs.Large.{Check, at_most}
 use Rattle.avi_model.specs.NewFile.{new_children}
 use Rattle.avi_model.specs.RoomAfter.{lists_fit, names_fit, patches_of}
-use Rattle.avi_model.specs.Support.{infos, list_limit, parts}
+use Rattle.avi_model.specs.Support.{infos, list_limit}
 use Rattle.unit_plan.specs.Cuts.{cut_in}
 use Rattle.unit_plan.specs.Sized.{spliced_len}
 use Rattle.unit_plan.specs.declared.row.UnitCuts.{UnitCuts}
@@ -53,7 +53,7 @@ list_checks b c = map (λ (x : Stood). at_most list_limit (length x.chunk.body))
 pub record ComesTo (b : List ℕ) (c : Changes) (f : FormAt) (n : ℕ) (u : UnitCuts) : Type 0 where
   pub size : n ≡ length (inner (children_after (avi_of b) c) (avi_of b).left)
   pub cuts_are : Drops b (joined_cuts (avi_of b) c) (map (cut_in b) u.cuts.items)
-  pub parts_are : u.parts ≡ parts (avi_after b c)
+  pub parts_are : u.parts ≡ parts_after (renumbered_avi b c) c
   pub fits : u.fits ≡ (names_fit (avi_of b) c.names && lists_fit (avi_of b) c)
   pub patches : u.fits ≡ true → placed_patches (sizes f n ++ u.cuts.items) ≡ patches_of (avi_of b) c
   pub long : spliced_len f.len (sizes f n ++ u.cuts.items) ≡ length (joined_file b c)

@@ -1,5 +1,4 @@
 pub mod Moved
-pub mod Misfits
 pub mod Heads
 pub mod Changes
 pub mod Tables

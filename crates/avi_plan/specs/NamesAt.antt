@@ -1,5 +1,5 @@
 -- What an edit of the names of streams makes of `hdrl`, as the model of AVI files has it (AVI RIFF File Reference, strn).
-use Rattle.std.specs.Prelude.{◌≡◌, ◌≤◌, ◌<◌, ◌⊎◌, ◌^◌, ℕ, ◌+◌, ◌==◌, List, [], ◌∷◌, ◌++◌, length, map, true, if◌then◌else◌}
+use Rattle.std.specs.Prelude.{◌≡◌, ◌≤◌, ◌<◌, ◌⊎◌, ℕ, ◌+◌, ◌==◌, List, [], ◌∷◌, ◌++◌, length, map, true, if◌then◌else◌}
 use Rattle.std.specs.List.{flat_map, AllByRecursion}
 use Rattle.container_model.specs.Chunk.{Chunk, spell}
 use Rattle.container_model.specs.Splice.{Cut}
@@ -7,8 +7,9 @@ use Rattle.container_model.specs.Units.{cuts, lacks_pad}
 use Rattle.unit_plan.specs.Cuts.{FitsIn, IsExact, SpansAscend, cut_in, patch_of}
 use Rattle.unit_plan.specs.Sized.{gained, lost}
 use Rattle.avi_model.specs.Avi.{Avi, avi_of, strls}
-use Rattle.avi_model.specs.Named.{Names, Site, hdrl_named, hdrl_site, list_pad, list_size, named, new_names, sites_in, strl_fill, strl_named, strl_pieces}
+use Rattle.avi_model.specs.Named.{Names, Site, hdrl_named, hdrl_site, list_pad, list_size, new_names, sites_in, strl_fill, strl_named, strl_pieces}
 use Rattle.avi_model.specs.RoomAfter.{hdrl_patches, names_fit}
+use Rattle.avi_model.specs.Streams.{stream_parts}
 use Rattle.avi_model.specs.Support.{count_kids}
 use Rattle.avi_plan.specs.declared.names.NamesAt.{NamesAt}
 
@@ -40,7 +41,7 @@ pub record AreNames (b : List ℕ) (e : Names) (n : NamesAt) : Type 0 where
   pub fits : n.fits ≡ names_fit (avi_of b) e
   pub lacks : map (λ (s : Site). lacks_pad (hdrl_named e s.ends s.chunk)) (hdrl_site (avi_of b)) ≡ n.lacks_pad ∷ []
   pub len : map (λ (s : Site). length (spell (hdrl_named e s.ends s.chunk))) (hdrl_site (avi_of b)) ≡ n.len ∷ []
-  pub parts : AllByRecursion (λ (s : Site). length (spell (hdrl_named e s.ends s.chunk)) < 2 ^ 32) (hdrl_site (avi_of b)) → count_kids (strls (named (avi_of b) e)) + n.was ≡ count_kids (strls (avi_of b)) + n.now
+  pub parts : stream_parts (avi_of b) e + n.was ≡ count_kids (strls (avi_of b)) + n.now
 
 -- ---- by numbers alone, whatever the file
 

@@ -27,7 +27,6 @@ mod form;
 mod head;
 mod joined;
 mod list;
-mod misfit;
 mod moves;
 mod names;
 mod patches;
@@ -46,7 +45,6 @@ mod units;
 
 pub use form::{FormAt, pad_stays, with_pad, with_size};
 pub use head::{entry_width, first_counted, read_head};
-pub use misfit::misfit_in;
 pub use moves::moves_between;
 pub use names::NamesAt;
 pub use plan::plan_spans;

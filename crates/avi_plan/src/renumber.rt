@@ -16,12 +16,12 @@ ghost use Rattle.avi_plan.specs.Heads.{first_in};
 ghost use Rattle.avi_plan.specs.Tables.{IsTabled, Tabled, changes_of, index, index_changes, old_changes, standard_changes, table_at};
 
 use crate::head::{entry_width, first_counted, read_head};
-use crate::misfit::misfit_in;
 use crate::table::{Change, TableAt, TableKind};
 use me_disk::Depot;
 use part_tree::{Base, IndexHead, Moves, PlanFault, Span, TableForm};
 use relocator::new_base;
 use std::alloc::Global;
+use table_misfits::misfit_in;
 
 const MOST_NUMBER: u64 = 4_294_967_295;
 

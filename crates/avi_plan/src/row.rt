@@ -31,8 +31,6 @@ use part_tree::{Plan, PlanFault};
 use std::alloc::Global;
 use unit_plan::{Place, UnitCuts, new_len, unit_cuts};
 
-const MOST_SIZE: u64 = 4_294_967_295;
-
 // The form's size with spans that make so many bytes of the file.
 fn size_after(form: &FormAt, moved: u64) -> u64
     requires more { form.now.len ≤ moved + form.now.size }
@@ -44,7 +42,8 @@ fn size_after(form: &FormAt, moved: u64) -> u64
 
 /// The plan of an edit of the first form of a file, whose chunks have these places up to the byte `end`, with the names of its
 /// streams set. `TooLarge` is the first of these that passes its limit: the parts, the form's size, the new place of a row of a
-/// table, and the file. No memory holds a list `hdrl` of 4 GiB. `Depot` only where the count of the depot's faults rose.
+/// table, and the file; so a list `hdrl` of 4 GiB is told by the form's size, or by the parts. `Depot` only where the count of the
+/// depot's faults rose. No memory holds spans of names and units that overlap, as those of one file never do.
 pub fn plan_row<D: Depot>(
     alloc: Global,
     depot: &mut D,
@@ -69,9 +68,6 @@ pub fn plan_row<D: Depot>(
     ensures reads { ReadsOnly (D.disk depot.old) (D.disk depot.new) }
     ensures cause { result ≡ Err PlanFault.Depot → Rose (D.disk depot.old).faults (D.disk depot.new).faults }
 {
-    if names.len > MOST_SIZE {
-        return Err(PlanFault::Memory);
-    }
     let units = match unit_cuts(alloc, places, 12, end, end == form.len) {
         Err(_) => return Err(PlanFault::Memory),
         Ok(units) => units,

@@ -4,6 +4,7 @@
 #![tactic(auto)]
 
 mod base;
+mod narrow;
 mod number;
 mod page;
 mod row;

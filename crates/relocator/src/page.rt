@@ -4,6 +4,7 @@ ghost use Rattle.part_tree.specs.declared.table.TableForm.TheVariants.{Idx1, Sup
 ghost use Rattle.part_tree.specs.Tables.{HasBase, RowsNamed, relocated, width};
 ghost use Rattle.relocator.specs.Pages.{Relocates, chunks, count, IsPage};
 
+use crate::narrow::{move_narrow, relocate_narrow};
 use crate::number::{be32_in, moved_place, set_be64};
 use crate::row::{move_row, move_super};
 use part_tree::{Base, IndexHead, Moves, TableForm};
@@ -15,9 +16,8 @@ pub struct Overflow {
     pub place: u64,
 }
 
-/// Moves the places in a page of a table whose first row has this number. `Overflow` exactly where a row can't name one of its
-/// new places: it tells the first of them, the rows before it are moved, and the others are as before.
-pub fn relocate_page(
+// Moves the places in a page of a table, row by row.
+fn relocate_each(
     form: &TableForm,
     page: &mut [u8],
     first: u64,
@@ -42,8 +42,27 @@ pub fn relocate_page(
     Ok(())
 }
 
-/// Moves the places in a page of a table. A row that can't name its new places stays.
-pub fn relocate_rows(form: &TableForm, page: &mut [u8], moves: &Moves)
+/// Moves the places in a page of a table whose first row has this number. `Overflow` exactly where a row can't name one of its
+/// new places: it tells the first of them, the rows before it are moved, and the others are as before.
+pub fn relocate_page(
+    form: &TableForm,
+    page: &mut [u8],
+    first: u64,
+    moves: &Moves,
+) -> Result<(), Overflow>
+    requires narrow { form.now ≢ Widen }
+    requires base { HasBase form.now }
+    requires page { IsPage form.now page.old first }
+    ensures { Relocates moves.now form.now first page.old page.new result }
+{
+    match form {
+        TableForm::Chunks32 => relocate_narrow(page, first, moves),
+        _ => relocate_each(form, page, first, moves),
+    }
+}
+
+// Moves the places in a page of a table, row by row. A row that can't name its new places stays.
+fn move_each(form: &TableForm, page: &mut [u8], moves: &Moves)
     requires narrow { form.now ≢ Widen }
     requires base { HasBase form.now }
     requires whole { length page.old ≡ width form.now * count form.now page.old }
@@ -54,6 +73,19 @@ pub fn relocate_rows(form: &TableForm, page: &mut [u8], moves: &Moves)
     for k in 0..page.len() / width {
         let at = k * width;
         move_row(form, &mut page[at..at + width], moves, &mut near);
+    }
+}
+
+/// Moves the places in a page of a table. A row that can't name its new places stays.
+pub fn relocate_rows(form: &TableForm, page: &mut [u8], moves: &Moves)
+    requires narrow { form.now ≢ Widen }
+    requires base { HasBase form.now }
+    requires whole { length page.old ≡ width form.now * count form.now page.old }
+    ensures { page.new ≡ relocated moves.now form.now (count form.now page.old) page.old }
+{
+    match form {
+        TableForm::Chunks32 => move_narrow(page, moves),
+        _ => move_each(form, page, moves),
     }
 }
 

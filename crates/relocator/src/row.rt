@@ -78,7 +78,7 @@ pub(crate) fn move_super(row: &mut [u8], moves: &Moves, near: &mut usize)
 }
 
 // Moves a chunk place of 32 bits.
-fn move_chunk32(row: &mut [u8], moves: &Moves, near: &mut usize) -> Option<u64>
+pub(crate) fn move_chunk32(row: &mut [u8], moves: &Moves, near: &mut usize) -> Option<u64>
     requires { length row.old ≡ 4 }
     ensures misfit { result ≡ misfit moves.now Chunks32 row.old }
     ensures row { row.new ≡ moved_row moves.now Chunks32 row.old }

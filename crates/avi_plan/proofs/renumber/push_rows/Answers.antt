@@ -1,5 +1,5 @@
 use Rattle.std.proofs.Common.{◌∙◌, sym, drop}
-use Rattle.avi_plan.proofs.Misfits.{none_named}
+use Rattle.table_misfits.proofs.Misfits.{none_named}
 use Rattle.avi_plan.proofs.renumber.push_rows.Goals as goal
 
 pub returns-in-Ok-clause-named : goal.returns-in-Ok-clause-named

@@ -47,7 +47,7 @@ returns-in-Err-plan_edit-clause-plans g c = λ b e held bytes sup tables are sha
     let out = c.in-Ok.ensures.outcome b (omega (arith, c.requires.high, c.requires.sound.inside, known.len)) in
     c.in-Err-plan_edit.ensures.plans b e (holds_on (g.D.Depot.disk c.args.depot.now) (g.D.Depot.disk c.pad_stays.new.depot) b c.in-Ok-pad_stays.ensures.reads held) bytes sup known tables listed.effect
     (comes_to b e bytes sup f known c.requires.sound c.args.names are c.requires.names c.args.end c.requires.high c.args.places.now c.requires.follow c.in-Ok.units c.in-Ok-joined.edit c.in-Ok.ensures.ascend (eqb c.args.end f.len) refl out shapes c.in-Ok-joined.ensures
-    n (omega (arith, moved, c.size_after-size.ensures)) c.in-Ok-pad_stays.stays (c.in-Ok-pad_stays.ensures.stays b held bytes) c.in-Ok-pad_stays.ensures.same c.in-Ok-pad_stays.ensures.last how c.if-names-gt-MOST_SIZE.false listed
+    n (omega (arith, moved, c.size_after-size.ensures)) c.in-Ok-pad_stays.stays (c.in-Ok-pad_stays.ensures.stays b held bytes) c.in-Ok-pad_stays.ensures.same c.in-Ok-pad_stays.ensures.last how listed
     (record { cuts = c.in-Ok-with_pad.cuts; fits = c.in-Ok-joined.edit.fits; parts = c.in-Ok-joined.edit.parts }) c.in-Ok-with_pad.ensures refl refl)
 
 pub returns-clause-plans : goal.returns-clause-plans
@@ -60,5 +60,5 @@ returns-clause-plans g c = λ b e held bytes sup tables are shapes listed.
     let out = c.in-Ok.ensures.outcome b (omega (arith, c.requires.high, c.requires.sound.inside, known.len)) in
     c.in-Ok-plan_edit.ensures.plans b e (holds_on (g.D.Depot.disk c.args.depot.now) (g.D.Depot.disk c.pad_stays.new.depot) b c.in-Ok-pad_stays.ensures.reads held) bytes sup known tables listed.effect
     (comes_to b e bytes sup f known c.requires.sound c.args.names are c.requires.names c.args.end c.requires.high c.args.places.now c.requires.follow c.in-Ok.units c.in-Ok-joined.edit c.in-Ok.ensures.ascend (eqb c.args.end f.len) refl out shapes c.in-Ok-joined.ensures
-    n (omega (arith, moved, c.size_after-size.ensures)) c.in-Ok-pad_stays.stays (c.in-Ok-pad_stays.ensures.stays b held bytes) c.in-Ok-pad_stays.ensures.same c.in-Ok-pad_stays.ensures.last how c.if-names-gt-MOST_SIZE.false listed
+    n (omega (arith, moved, c.size_after-size.ensures)) c.in-Ok-pad_stays.stays (c.in-Ok-pad_stays.ensures.stays b held bytes) c.in-Ok-pad_stays.ensures.same c.in-Ok-pad_stays.ensures.last how listed
     (record { cuts = c.in-Ok-with_pad.cuts; fits = c.in-Ok-joined.edit.fits; parts = c.in-Ok-joined.edit.parts }) c.in-Ok-with_pad.ensures refl refl)

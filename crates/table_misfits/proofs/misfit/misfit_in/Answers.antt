@@ -1,9 +1,9 @@
 use Rattle.std.proofs.Common.{◌∙◌, ◌+◌, ◌*◌, ℕ, drop, sym, ap, arith}
 use Rattle.me_disk.proofs.Holds.{holds_on}
 use Rattle.me_disk.proofs.Runs.{ReadsOnly-trans}
-use Rattle.avi_plan.specs.Misfits.{misfits}
-use Rattle.avi_plan.proofs.Misfits.{misfits_few, misfits_found, misfits_page, page_long}
-use Rattle.avi_plan.proofs.misfit.misfit_in.Goals as goal
+use Rattle.table_misfits.specs.Misfits.{misfits}
+use Rattle.table_misfits.proofs.Misfits.{misfits_few, misfits_found, misfits_page, page_long}
+use Rattle.table_misfits.proofs.misfit.misfit_in.Goals as goal
 
 pub returns-in-Some-clause-misfit : goal.returns-in-Some-clause-misfit
 returns-in-Some-clause-misfit g c b held =

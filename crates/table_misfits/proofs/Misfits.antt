@@ -9,7 +9,7 @@ use Rattle.container_model.specs.Tests.{or_else}
 use Rattle.container_model.proofs.Tests.{or_none}
 use Rattle.part_tree.proofs.Relocated.{wide}
 use Rattle.relocator.specs.Pages.{count}
-use Rattle.avi_plan.specs.Misfits.{misfits}
+use Rattle.table_misfits.specs.Misfits.{misfits}
 
 pub or_assoc : {W : Type 0} (a b c : Option W) → or_else a (or_else b c) ≡ or_else (or_else a b) c
 or_assoc None b c = refl

@@ -5,7 +5,7 @@ ghost use Rattle.me_disk.specs.Steps.{HasCause, ReadsOnly};
 ghost use Rattle.part_tree.specs.declared.table.TableForm.TheVariants.{Widen};
 ghost use Rattle.part_tree.specs.Tables.{HasBase, width};
 ghost use Rattle.relocator.specs.Pages.{count};
-ghost use Rattle.avi_plan.specs.Misfits.{misfits};
+ghost use Rattle.table_misfits.specs.Misfits.{misfits};
 
 use me_disk::{Depot, DepotFault, Slot};
 use part_tree::{Moves, TableForm};

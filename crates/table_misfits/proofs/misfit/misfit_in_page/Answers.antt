@@ -1,8 +1,8 @@
 use Rattle.std.proofs.Common.{◌≡◌, ◌∙◌, ◌*◌, ◌/◌, ℕ, List, length, take, drop, sym, ap, subst, arith}
 use Rattle.part_tree.specs.Tables.{width}
 use Rattle.relocator.specs.Pages.{count}
-use Rattle.avi_plan.proofs.Misfits.{count_small, first_stop, named_none, page_misfits}
-use Rattle.avi_plan.proofs.misfit.misfit_in_page.Goals as goal
+use Rattle.table_misfits.proofs.Misfits.{count_small, first_stop, named_none, page_misfits}
+use Rattle.table_misfits.proofs.misfit.misfit_in_page.Goals as goal
 
 pub relocate_page-requires-clause-page : goal.relocate_page-requires-clause-page
 relocate_page-requires-clause-page g c =

@@ -1,5 +1,5 @@
 use Rattle.relocator.proofs.Pages.{same_width, page_step}
-use Rattle.relocator.proofs.page.relocate_rows.Goals as goal
+use Rattle.relocator.proofs.page.move_each.Goals as goal
 
 pub loop-k-preserved : goal.loop-k-preserved
 loop-k-preserved c = record {

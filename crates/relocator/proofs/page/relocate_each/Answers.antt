@@ -1,6 +1,6 @@
 use Rattle.std.proofs.Common.{sym}
 use Rattle.relocator.proofs.Pages.{same_width, page_step, named_step}
-use Rattle.relocator.proofs.page.relocate_page.Goals as goal
+use Rattle.relocator.proofs.page.relocate_each.Goals as goal
 
 pub loop-k-preserved : goal.loop-k-preserved
 loop-k-preserved c =

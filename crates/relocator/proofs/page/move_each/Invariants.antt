@@ -1,6 +1,6 @@
 use Rattle.std.proofs.Common.{◌≡◌, ◌*◌, ◌++◌, drop}
 use Rattle.part_tree.specs.Tables.{relocated, width}
-use Rattle.relocator.proofs.page.relocate_rows.Given as goal
+use Rattle.relocator.proofs.page.move_each.Given as goal
 
 -- the rows so far are moved, and the others are as before
 abbrev pub invariant-loop-k : goal.invariant-loop-k

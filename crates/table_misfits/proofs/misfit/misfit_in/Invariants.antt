@@ -2,8 +2,8 @@ use Rattle.std.proofs.Common.{◌≡◌, ◌≤◌, ◌+◌, ◌-◌, ◌*◌, �
 use Rattle.me_disk.specs.Holds.{Holds}
 use Rattle.me_disk.specs.Steps.{ReadsOnly}
 use Rattle.part_tree.specs.Tables.{width}
-use Rattle.avi_plan.specs.Misfits.{misfits}
-use Rattle.avi_plan.proofs.misfit.misfit_in.Given as goal
+use Rattle.table_misfits.specs.Misfits.{misfits}
+use Rattle.table_misfits.proofs.misfit.misfit_in.Given as goal
 
 -- the rows that were read can name their new places, and the others are left
 abbrev pub invariant-pages : goal.invariant-pages
