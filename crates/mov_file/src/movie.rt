@@ -12,7 +12,6 @@ ghost use Rattle.mov_model.specs.Begins.{begins_movie};
 ghost use Rattle.qt_atoms.specs.Walk.{InOrder, row};
 ghost use Rattle.qt_keys.specs.Read.{IsRead};
 ghost use Rattle.qt_text.specs.User.{udta};
-ghost use Rattle.me_disk.specs.Windows.{IsWindow};
 ghost use Rattle.mov_file.specs.Carriers.{kids_in};
 ghost use Rattle.mov_file.specs.Chunks.{first_astray};
 ghost use Rattle.mov_file.specs.Fields.{Grows, StayLawful};
@@ -30,7 +29,7 @@ use crate::reading::Reading;
 use crate::texts::take_user;
 use crate::track::tracks_by;
 use crate::walk::{walk_file, walk_moov};
-use me_disk::{Depot, DepotFault, HeaderWindow, Slot};
+use me_disk::{Depot, DepotFault, Slot};
 use part_tree::{Fields, ReadFault, Span, Track, Why};
 use qt_atoms::AtomAt;
 use std::alloc::Global;
@@ -71,7 +70,6 @@ fn meet<D: Depot>(reading: &mut Reading, depot: &mut D, len: u64) -> Result<Atom
 
 // The number of the first chunk of a track, whose tables end here, that stands in none of the ranges, which ascend.
 fn astray_of<D: Depot>(
-    window: &mut HeaderWindow,
     depot: &mut D,
     mdats: &[Span],
     track: &Track,
@@ -81,14 +79,12 @@ fn astray_of<D: Depot>(
     requires small { end < 2 ^ 63 }
     requires order { Ascends 0 mdats.now }
     requires tables { TrackEndsBy end track.now }
-    requires window { IsWindow (D.disk depot.old) window.old }
     ensures astray { (b : List ℕ) → Holds (D.disk depot.old) b → HasPlaces b track.now
         → IfOk result (λ found. found ≡ first_astray mdats.now 1 (chunks_of b track.now)) }
-    ensures window { IsWindow (D.disk depot.new) window.new }
     ensures reads { ReadsOnly (D.disk depot.old) (D.disk depot.new) }
     ensures cause { HasCause (D.disk depot.old) (D.disk depot.new) result }
 {
-    astray_in(window, depot, mdats, track.wide, track.chunks)
+    astray_in(depot, mdats, track.wide, track.chunks)
 }
 
 // The first chunk of these tracks, whose tables end here, that stands in none of the ranges, which ascend.
@@ -108,11 +104,10 @@ fn chunk_why<D: Depot>(
     ensures reads { ReadsOnly (D.disk depot.old) (D.disk depot.new) }
     ensures cause { HasCause (D.disk depot.old) (D.disk depot.new) result }
 {
-    let mut window = HeaderWindow::new();
     let mut number = 0;
     'tracks: for track in tracks {
         number += 1;
-        match astray_of(&mut window, depot, mdats, track, end)? {
+        match astray_of(depot, mdats, track, end)? {
             None => {}
             Some(chunk) => return Ok(Some(Why::ChunkAstray {
                 track: number,

@@ -2,7 +2,7 @@
 use crate::chunks::astray_in;
 use crate::texts::take_user;
 use crate::{MovMap, read_mov};
-use me_disk::{Depot, DepotFault, HeaderWindow, MemoryDepot, Room, Slot};
+use me_disk::{Depot, DepotFault, MemoryDepot, Room, Slot};
 use part_tree::{FieldName, Fields, FourCc, KeyName, ReadFault, Role, Span, Track, Why};
 use std::alloc::{AllocError, Global};
 use std::test::Fail;
@@ -127,9 +127,8 @@ fn refuses_by_the_first_reason(rt: HostRuntime) -> Result<(), Fail> {
 // The first chunk that stands in no `mdat`, of a file that is the body of a table. The essence stands from 16 to 24.
 fn astray<D: Depot>(depot: &mut D, wide: bool) -> Result<Option<u32>, DepotFault> {
     let len = depot.len(Slot::Main)?;
-    let mut window = HeaderWindow::new();
     let mdats = [Span { at: 16, len: 8 }];
-    astray_in(&mut window, depot, &mdats, wide, Span { at: 0, len })
+    astray_in(depot, &mdats, wide, Span { at: 0, len })
 }
 
 #[test]

@@ -57,9 +57,3 @@ known_by b e m ts u ps bytes is known same carried outcome =
           ∙ ap (λ (ys : List Shape). row (beyond_of v) (kids_at v (edits.changes b e)) none ys) same;
       carried = carried;
     }
-
--- whether the movie widens, by the spans of the units
-pub widens_by : (b : List ℕ) (e : List EditItem) (m : MoovAt) (ts : List TableAt) (u : Units) (told : IsKnown b e m ts u) → IsSoundMoov m → StandsIn m u → widens b e ≡ widens_in (map (cut_in b) u.cuts.items) b ts
-widens_by b e m ts u told sound stands =
-    widens_told b e told.bytes told.moov.supported.readable ts told.tables told.carried.effect
-    ∙ ap (λ (cs : List Cut). widens_in cs b ts) (sym (edit b e m ts u told sound stands).cuts)

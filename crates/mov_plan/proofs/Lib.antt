@@ -13,7 +13,7 @@ pub mod Made
 pub mod KeyLists
 pub mod KeyTables
 pub mod KeySizes
-pub mod Passed
+pub mod Widening
 pub mod Held
 pub mod KeyBody
 pub mod Rowed

@@ -1,4 +1,4 @@
--- A row whose new place it has room for, and one more of such rows.
+-- A row has room for its new place.
 use Rattle.std.proofs.Common.{◌≡◌, ◌∙◌, ℕ, zero, suc, ◌+◌, ◌≤◌, ◌<◌, ◌^◌, Bool, true, false, cond, List, length, take, drop, None, Some, refl, sym, ap, subst, arith, leb, ltb}
 use Rattle.std.specs.Prelude.{◌&&◌}
 use Rattle.std.specs.Int.{w32, w64, from_be_bytes}
@@ -16,28 +16,15 @@ use Rattle.mov_plan.proofs.Rowed.{be_eight, be_four, take_self}
 fits_by : (bound x : ℕ) → x < bound → cond (leb 0 x && ltb x bound) None (Some x) ≡ None
 fits_by bound x h = ap (λ (t : Bool). cond (t && ltb x bound) None (Some x)) (le-leb 0 x (omega arith)) ∙ ap (λ (t : Bool). cond t None (Some x)) (lt-ltb x bound h)
 
-four_fits : (ms : List Move) (row : List ℕ) (p : ℕ) → length row ≡ 4 → p ≡ from_be_bytes w32 row → moved ms p < 2 ^ 32 → misfit ms Chunks32 row ≡ None
+pub four_fits : (ms : List Move) (row : List ℕ) (p : ℕ) → length row ≡ 4 → p ≡ from_be_bytes w32 row → moved ms p < 2 ^ 32 → misfit ms Chunks32 row ≡ None
 four_fits ms row p long e lt =
     let number : 0 + be (take 4 row) ≡ p = omega (arith, ap be (take_self 4 row long), be_four row long, e) in
     fits_by (2 ^ 32) (moved ms (0 + be (take 4 row))) (subst (λ (n : ℕ). moved ms n < 2 ^ 32) (sym number) lt)
 
-eight_fits : (ms : List Move) (row : List ℕ) (p : ℕ) → length row ≡ 8 → p ≡ from_be_bytes w64 row → moved ms p < 2 ^ 64 → misfit ms Chunks64 row ≡ None
+pub eight_fits : (ms : List Move) (row : List ℕ) (p : ℕ) → length row ≡ 8 → p ≡ from_be_bytes w64 row → moved ms p < 2 ^ 64 → misfit ms Chunks64 row ≡ None
 eight_fits ms row p long e lt =
     let number : 0 + be (take 8 row) ≡ p = omega (arith, ap be (take_self 8 row long), be_eight row long, e) in
     fits_by (2 ^ 64) (moved ms (0 + be (take 8 row))) (subst (λ (n : ℕ). moved ms n < 2 ^ 64) (sym number) lt)
-
--- one row more
-pub named_more : (ms : List Move) (b : List ℕ) (wide : Bool) (left at p to : ℕ) → at + (width_of wide).bytes ≤ length b → p ≡ (width_of wide).get (take (width_of wide).bytes (drop at b)) → to ≡ moved ms p → to < 2 ^ 64 → (wide ≡ false → to < 2 ^ 32)
-    → RowsNamed ms (form_of wide false) left (drop (at + (width_of wide).bytes) b) → RowsNamed ms (form_of wide false) (suc left) (drop at b)
-named_more ms b true left at p to inside is put small narrow h =
-    let row = take 8 (drop at b) in
-    let long : length row ≡ 8 = omega (arith, length-take 8 (drop at b), length-drop at b, inside) in
-    (eight_fits ms row p long is (omega (arith, put, small)), subst (RowsNamed ms Chunks64 left) (sym (drop-drop 8 at b)) h)
-named_more ms b false left at p to inside is put small narrow h =
-    let row = take 4 (drop at b) in
-    let long : length row ≡ 4 = omega (arith, length-take 4 (drop at b), length-drop at b, inside) in
-    let fits = narrow refl in
-    (four_fits ms row p long is (omega (arith, put, fits)), subst (RowsNamed ms Chunks32 left) (sym (drop-drop 4 at b)) h)
 
 -- rows of four bytes that are widened have room for every place
 pub widened_named : (ms : List Move) (b : List ℕ) (t : TableAt) → t.wide ≡ false → IsNamed true ms b t
@@ -53,3 +40,9 @@ wide_named true ms b t e h =
     let yes = e refl in
     subst (λ (v : Bool). RowsNamed ms (form_of v true) t.rows (drop t.at b)) (sym yes) (subst (λ (v : Bool). RowsNamed ms (form_of v false) t.rows (drop t.at b)) yes h)
 wide_named false ms b t e h = h
+
+pub named_wide : (w : Bool) (ms : List Move) (b : List ℕ) (t : TableAt) → (w ≡ true → t.wide ≡ true) → IsNamed w ms b t → RowsNamed ms (form_of t.wide false) t.rows (drop t.at b)
+named_wide true ms b t e h =
+    let yes = e refl in
+    subst (λ (v : Bool). RowsNamed ms (form_of v false) t.rows (drop t.at b)) (sym yes) (subst (λ (v : Bool). RowsNamed ms (form_of v true) t.rows (drop t.at b)) yes h)
+named_wide false ms b t e h = h

@@ -43,6 +43,7 @@ use Rattle.unit_plan.proofs.Overlaid.{spliced_length}
 use Rattle.mov_plan.specs.Edits.{IsEditOf}
 use Rattle.mov_plan.specs.Frame.{IsSoundMoov, body_len, size_by, size_cuts}
 use Rattle.mov_plan.specs.Made.{IsNamed}
+use Rattle.mov_plan.specs.Moved.{GoBetween}
 use Rattle.mov_plan.specs.Places.{outcome_in}
 use Rattle.mov_plan.specs.Planned.{IsKnown, IsSized, StandsIn, sizes_in}
 use Rattle.mov_plan.specs.Tables.{merged, rows_of, table_len, width_of}
@@ -61,7 +62,7 @@ use Rattle.mov_plan.proofs.Lying.{RowFine}
 use Rattle.mov_plan.proofs.Mixed.{IsRow, map-both, merged_is, mixed, mixed_first}
 use Rattle.mov_plan.proofs.Rowed.{PutTo, put_place, row_cut, table_told}
 use Rattle.mov_plan.proofs.Limits.{large_law, three}
-use Rattle.mov_plan.proofs.Sized.{framed_ascend, framed_len, units_ascend}
+use Rattle.mov_plan.proofs.Sized.{framed_ascend, framed_len, kept_in_all, units_ascend}
 use Rattle.mov_model.proofs.Large.{within}
 
 -- the span of the size stands before all tables
@@ -155,6 +156,12 @@ module _ (b : List ℕ) (e : List EditItem) (m : MoovAt) (ts : List TableAt) (u 
       ∙ sym (spliced_length b m.len framed (sym known.moov.len) (framed_ascend m sound n u.cuts.items stands.ascend))
       ∙ ap length (sym laid_is)
       ∙ sym (same_long (laid_movie v c) (new_movie v c) refl refl refl refl (body_law b bytes sup c known.carried.carriers) refl refl)
+
+  -- where the ranges between the spans go
+  pub goes : (ms : List Move) → GoBetween m.len u.cuts.items ms → ms ≡ moves_of (edit_cuts v c) m.len
+  goes ms between =
+      between b (sym known.moov.len) (kept_in_all m.from (m.end + m.behind.gap) m.len u.cuts.items (omega (arith, sound.inside)) stands.ascend)
+      ∙ ap (λ (cs : List Cut). moves_of cs m.len) edit.cuts
 
   -- ---- the new file
 

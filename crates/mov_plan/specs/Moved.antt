@@ -1,6 +1,9 @@
 -- Ranges of a file with their new places, one after the other (this project's own).
-use Rattle.std.specs.Prelude.{◌≤◌, ◌<◌, ◌^◌, ℕ, ◌+◌, ◌-◌, List, [], ◌∷◌, length, nat_le, if◌then◌else◌}
+use Rattle.std.specs.Prelude.{◌≡◌, ◌≤◌, ◌<◌, ◌^◌, ℕ, ◌+◌, List, [], ◌∷◌, length, map}
+use Rattle.std.specs.List.{AllByRecursion}
 use Rattle.part_tree.specs.Moves.{Move}
+use Rattle.carrier_model.specs.Gaps.{moves_of}
+use Rattle.unit_plan.specs.Cuts.{cut_in}
 use Rattle.unit_plan.specs.declared.cut.CutAt.{CutAt}
 use Rattle.mov_plan.specs.declared.moves.Ranges.{Ranges}
 
@@ -18,15 +21,7 @@ AreRanges r = AscendTo 0 r.held.items r.at
 abbrev pub IsKeptIn : ℕ → CutAt → Type 0
 IsKeptIn len k = (k.keep ≤ k.span.len) × (k.span.at + k.span.len ≤ len)
 
--- what the spans gain and lose that end at a place or before it, before the first one that doesn't
-abbrev pub gained_by : List CutAt → ℕ → ℕ
-gained_by [] p = 0
-gained_by (k ∷ ks) p = if nat_le (k.span.at + k.span.len) p then (length k.bytes + k.keep) + gained_by ks p else 0
-
-abbrev pub lost_by : List CutAt → ℕ → ℕ
-lost_by [] p = 0
-lost_by (k ∷ ks) p = if nat_le (k.span.at + k.span.len) p then k.span.len + lost_by ks p else 0
-
--- where spans move a place that stands in none of them
-abbrev pub shifted_by : List CutAt → ℕ → ℕ
-shifted_by ks p = (p + gained_by ks p) - lost_by ks p
+-- the moves are those between the spans, in each file of this length
+abbrev pub GoBetween : ℕ → List CutAt → List Move → Type 0
+GoBetween len cuts ms =
+    (b : List ℕ) → length b ≡ len → AllByRecursion (IsKeptIn len) cuts → ms ≡ moves_of (map (cut_in b) cuts) len

@@ -43,7 +43,6 @@ mod tracks;
 mod unit;
 mod user;
 mod user_carry;
-mod widen;
 mod within;
 
 pub use atoms::{AtomsFault, atoms_of};

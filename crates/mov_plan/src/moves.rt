@@ -3,7 +3,7 @@ ghost use Rattle.std.specs.Prelude.{◌≡◌, ◌≤◌, ◌<◌, ◌+◌, ◌-
 ghost use Rattle.std.specs.List.{AllByRecursion};
 ghost use Rattle.carrier_model.specs.Gaps.{between, moves_of};
 ghost use Rattle.unit_plan.specs.Cuts.{cut_in};
-ghost use Rattle.mov_plan.specs.Moved.{AscendTo, AreRanges, IsKeptIn};
+ghost use Rattle.mov_plan.specs.Moved.{AreRanges, GoBetween};
 
 use part_tree::{Moves, NoMemory, Span};
 use std::alloc::Global;
@@ -54,8 +54,7 @@ impl Ranges {
 
 /// Where the ranges of a file of `len` bytes go between spans in the place of which others stand.
 pub fn moves_between(alloc: Global, cuts: &[CutAt], len: u64) -> Result<Moves, NoMemory>
-    ensures { IfOk result (λ m. (b : List ℕ) → length b ≡ len → AllByRecursion (IsKeptIn len) cuts.now
-        → m ≡ moves_of (map (cut_in b) cuts.now) len) }
+    ensures { IfOk result (GoBetween len cuts.now) }
 {
     let mut ranges = Ranges {
         held: Vec::new(alloc),

@@ -1,78 +1,37 @@
 // Whether all new places in the tables of a file can be named.
-ghost use Rattle.std.specs.Prelude.{◌≡◌, ◌<◌, ◌^◌, ℕ, List, drop, true, false, IfOk};
+ghost use Rattle.std.specs.Prelude.{◌≡◌, ◌≤◌, ◌<◌, ◌+◌, ◌^◌, ℕ, List, length, true, false, IfOk};
 ghost use Rattle.std.specs.List.{AllByRecursion};
 ghost use Rattle.me_disk.specs.Steps.{HasCause, ReadsOnly};
 ghost use Rattle.me_disk.specs.Holds.{Holds, Inside};
-ghost use Rattle.me_disk.specs.Windows.{IsWindow};
-ghost use Rattle.part_tree.specs.Tables.{RowsNamed, moved};
 ghost use Rattle.mov_plan.specs.Made.{IsNamed};
-ghost use Rattle.mov_plan.specs.Tables.{form_of};
+ghost use Rattle.mov_plan.specs.Tables.{LiesIn, form_of, table_len};
 
-use crate::rows::{read_row, row_len};
 use crate::tables::TableAt;
-use me_disk::{Depot, DepotFault, HeaderWindow};
-use part_tree::Moves;
+use me_disk::{Depot, DepotFault};
+use part_tree::{Moves, TableForm};
+use table_misfits::misfit_in;
 
-const MOST_PLACE: u64 = 4_294_967_295;
-
-// The new place of a place. Where no range holds it, it stays.
-fn new_place(moves: &Moves, place: u64) -> u64
-    ensures to { result ≡ moved moves.now place }
-    ensures fits { result < 2 ^ 64 }
+// Whether the rows of a table end at a place or before it.
+fn lies_before(table: &TableAt, end: u64) -> bool
+    ensures lies { result ≡ true → table.now.at + table_len table.now ≤ end }
+    ensures behind { result ≡ false → end < table.now.at + table_len table.now }
 {
-    match moves.place(place) {
-        None => place,
-        Some(to) => to,
-    }
+    table.at <= end && table.len() <= end - table.at
 }
 
-// Whether a row has room for a place.
-fn has_room(wide: bool, place: u64) -> bool
-    ensures { result ≡ true → wide ≡ false → place < 2 ^ 32 }
+// What the rows of a table are that keep their width.
+fn form_in(table: &TableAt) -> TableForm
+    ensures { result ≡ form_of table.now.wide false }
 {
-    wide || place <= MOST_PLACE
-}
-
-// Whether the new places in so many rows, from a place on, can be named.
-fn rows_named<D: Depot>(
-    window: &mut HeaderWindow,
-    depot: &mut D,
-    moves: &Moves,
-    wide: bool,
-    at: u64,
-    rows: u32,
-    end: u64,
-) -> Result<bool, DepotFault>
-    requires inside { Inside end (D.disk depot.old) }
-    requires small { end < 2 ^ 63 }
-    requires window { IsWindow (D.disk depot.old) window.old }
-    ensures named { (b : List ℕ) → Holds (D.disk depot.old) b
-        → IfOk result (λ named. named ≡ true → RowsNamed moves.now (form_of wide false) rows (drop at b)) }
-    ensures window { IsWindow (D.disk depot.new) window.new }
-    ensures reads { ReadsOnly (D.disk depot.old) (D.disk depot.new) }
-    ensures cause { HasCause (D.disk depot.old) (D.disk depot.new) result }
-{
-    let width = row_len(wide);
-    let mut next = at;
-    let mut left = rows;
-    'rows: while left > 0 {
-        if next > end || end - next < width {
-            return Ok(false);
-        }
-        let place = read_row(window, depot, wide, next, end)?;
-        let to = new_place(moves, place);
-        if !has_room(wide, to) {
-            return Ok(false);
-        }
-        next += width;
-        left -= 1;
+    if table.wide {
+        TableForm::Chunks64
+    } else {
+        TableForm::Chunks32
     }
-    Ok(true)
 }
 
 // Whether the new places in a table can be named. Rows of four bytes may be `widened`.
 fn table_named<D: Depot>(
-    window: &mut HeaderWindow,
     depot: &mut D,
     moves: &Moves,
     table: &TableAt,
@@ -81,17 +40,27 @@ fn table_named<D: Depot>(
 ) -> Result<bool, DepotFault>
     requires inside { Inside end (D.disk depot.old) }
     requires small { end < 2 ^ 63 }
-    requires window { IsWindow (D.disk depot.old) window.old }
     ensures named { (b : List ℕ) → Holds (D.disk depot.old) b
         → IfOk result (λ named. named ≡ true → IsNamed widened moves.now b table.now) }
-    ensures window { IsWindow (D.disk depot.new) window.new }
+    ensures not_named { (b : List ℕ) → Holds (D.disk depot.old) b → length b ≡ end → LiesIn b table.now
+        → IfOk result (λ named. named ≡ false → IsNamed widened moves.now b table.now → ⊥) }
     ensures reads { ReadsOnly (D.disk depot.old) (D.disk depot.new) }
     ensures cause { HasCause (D.disk depot.old) (D.disk depot.new) result }
 {
     if widened && !table.wide {
         return Ok(true);
     }
-    rows_named(window, depot, moves, table.wide, table.at, table.rows, end)
+    if !lies_before(table, end) {
+        return Ok(false);
+    }
+    let misfit = misfit_in(
+        depot,
+        &form_in(table),
+        table.at,
+        u64::from(table.rows),
+        moves,
+    )?;
+    Ok(misfit.is_none())
 }
 
 /// Whether all new places in the tables of a file, which ends at the byte `end`, can be named by their rows. Rows of four bytes may
@@ -107,12 +76,14 @@ pub fn all_named<D: Depot>(
     requires small { end < 2 ^ 63 }
     ensures named { (b : List ℕ) → Holds (D.disk depot.old) b
         → IfOk result (λ named. named ≡ true → AllByRecursion (IsNamed widened moves.now b) tables.now) }
+    ensures not_named { (b : List ℕ) → Holds (D.disk depot.old) b → length b ≡ end
+        → AllByRecursion (LiesIn b) tables.now
+        → IfOk result (λ named. named ≡ false → AllByRecursion (IsNamed widened moves.now b) tables.now → ⊥) }
     ensures reads { ReadsOnly (D.disk depot.old) (D.disk depot.new) }
     ensures cause { HasCause (D.disk depot.old) (D.disk depot.new) result }
 {
-    let mut window = HeaderWindow::new();
     'tables: for table in tables {
-        if !table_named(&mut window, depot, moves, table, widened, end)? {
+        if !table_named(depot, moves, table, widened, end)? {
             return Ok(false);
         }
     }

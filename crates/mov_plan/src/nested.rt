@@ -4,6 +4,7 @@ ghost use Rattle.std.specs.Str.{bytes_eq};
 ghost use Rattle.me_disk.specs.Causes.{Rose};
 ghost use Rattle.me_disk.specs.Holds.{Holds, Inside};
 ghost use Rattle.me_disk.specs.Steps.{ReadsOnly};
+ghost use Rattle.me_disk.specs.Windows.{IsWindow};
 ghost use Rattle.container_model.specs.Atoms.{atom as atom_of, atoms_in};
 ghost use Rattle.container_model.specs.Chunk.{spell};
 ghost use Rattle.container_model.specs.Walk.{along, walk};
@@ -48,12 +49,14 @@ fn next_atom<D: Depot>(
     depot: &mut D,
 ) -> Result<Option<AtomAt>, NestedFault>
     requires inside { Inside walker.old.end (D.disk depot.old) }
+    requires window { IsWindow (D.disk depot.old) walker.old.window }
     ensures atom { IfOk result (λ found. IfSome found (λ atom. InOrder walker.old.at walker.old.end atom)) }
     ensures moved { IfOk result (λ found. walker.new.at ≡ place_after walker.old.at found) }
     ensures end { walker.new.end ≡ walker.old.end }
     ensures parent { walker.new.parent ≡ walker.old.parent }
     ensures next { (b : List ℕ) → Holds (D.disk depot.old) b
         → IfOk result (λ found. IsNext (level_of walker.old.parent) b walker.old.at walker.old.end found) }
+    ensures window { IsWindow (D.disk depot.new) walker.new.window }
     ensures reads { ReadsOnly (D.disk depot.old) (D.disk depot.new) }
     ensures cause { result ≡ Err NestedFault.Depot → Rose (D.disk depot.old).faults (D.disk depot.new).faults }
 {

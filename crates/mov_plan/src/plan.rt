@@ -1,5 +1,5 @@
 // The plan of an edit of a movie.
-ghost use Rattle.std.specs.Prelude.{◌≡◌, ◌≤◌, ◌<◌, ◌+◌, ◌++◌, ◌^◌, true, false, ℕ, List, length, map, None, IfOk, IfSome, sum_by};
+ghost use Rattle.std.specs.Prelude.{◌≡◌, ◌≢◌, ◌≤◌, ◌<◌, ◌+◌, ◌++◌, ◌^◌, true, false, ℕ, List, length, map, None, Err, IfOk, IfSome, sum_by};
 ghost use Rattle.std.specs.List.{AllByRecursion, flat_map};
 ghost use Rattle.me_bytes.specs.Bytes.{IsBytes};
 ghost use Rattle.me_disk.specs.Causes.{Rose};
@@ -22,6 +22,7 @@ ghost use Rattle.mov_plan.specs.Edits.{edited_cells};
 ghost use Rattle.mov_plan.specs.Frame.{IsMoovOf, IsSoundMoov, size_cuts};
 ghost use Rattle.mov_plan.specs.Holders.{grown_by};
 ghost use Rattle.mov_plan.specs.Made.{IsKept, IsNamed};
+ghost use Rattle.mov_plan.specs.Moved.{GoBetween};
 ghost use Rattle.mov_plan.specs.Places.{Follow, shape_in};
 ghost use Rattle.mov_plan.specs.Planned.{AreHolders, AreTables, IsCarried, IsKnown, IsSized, StandsIn, passed, sizes_in};
 ghost use Rattle.mov_plan.specs.Shapes.{shapes};
@@ -35,7 +36,6 @@ use crate::place::Place;
 use crate::row::{Units, unit_cuts};
 use crate::spread::moves_widened;
 use crate::tables::{TableAt, segments_with};
-use crate::widen::widens;
 use me_disk::Depot;
 use part_tree::{Moves, NoMemory, Plan, PlanFault};
 use qt_atoms::AtomAt;
@@ -145,90 +145,63 @@ fn framed(
     }
 }
 
-// What a plan lacks: its depot failed, or there was no memory.
-#[derive(Clone, Copy, Debug, PartialEq, Eq)]
-enum Want {
-    Depot,
-    Memory,
-}
-
-// A new file of so many bytes, of which spans are replaced, with its tables anew between them.
-fn rewrite<D: Depot>(
+// A new file of so many bytes, of which spans are replaced, with its tables anew between them, where these can name the new places.
+fn rewrite(
     alloc: Global,
-    depot: &mut D,
     cuts: &[CutAt],
     tables: &[TableAt],
     moves: Moves,
     widened: bool,
     len: u64,
     new_len: u64,
-) -> Result<Plan, Want>
+) -> Result<Plan, NoMemory>
     requires kept { AllByRecursion IsKept cuts.now }
-    requires inside { Inside len (D.disk depot.old) }
     requires old_small { len < 2 ^ 63 }
     requires new_small { new_len < 2 ^ 63 }
     ensures can { IfOk result (λ p. CanRun p) }
-    ensures belongs { (b : List ℕ) → Holds (D.disk depot.old) b → length b ≡ len → IfOk result (λ p. Belongs p b) }
-    ensures applied { (b : List ℕ) → Holds (D.disk depot.old) b → length b ≡ len
+    ensures belongs { (b : List ℕ) → length b ≡ len → AllByRecursion (IsNamed widened moves b) tables.now
+        → IfOk result (λ p. Belongs p b) }
+    ensures applied { (b : List ℕ) → length b ≡ len
         → IfOk result (λ p. applied p b ≡ splice b (merged widened moves b cuts.now tables.now)) }
-    ensures named { (b : List ℕ) → Holds (D.disk depot.old) b
-        → IfOk result (λ p. AllByRecursion (IsNamed widened moves b) tables.now) }
     ensures form { IfOk result (λ p. IsRewrite new_len p) }
-    ensures reads { ReadsOnly (D.disk depot.old) (D.disk depot.new) }
-    ensures cause { result ≡ Err Want.Depot → Rose (D.disk depot.old).faults (D.disk depot.new).faults }
 {
-    let named = match all_named(depot, &moves, tables, widened, len) {
-        Err(_) => return Err(Want::Depot),
-        Ok(named) => named,
-    };
-    if !named {
-        return Err(Want::Memory);
-    }
-    match segments_with(alloc, cuts, tables, widened, len, new_len) {
-        Err(_) => Err(Want::Memory),
-        Ok(segments) => Ok(Plan::Rewrite {
-            new_len,
-            moves,
-            segments,
-        }),
-    }
+    let segments = segments_with(alloc, cuts, tables, widened, len, new_len)?;
+    Ok(Plan::Rewrite {
+        new_len,
+        moves,
+        segments,
+    })
 }
 
 // The plan that replaces spans, in which each table keeps its width: in place where the spans fit there and a journal holds their
 // patches, and else a new file.
-fn plan_cuts<D: Depot>(
+fn plan_cuts(
     alloc: Global,
-    depot: &mut D,
     cuts: &[CutAt],
     fits: bool,
     tables: &[TableAt],
     moves: Moves,
     len: u64,
     new_len: u64,
-) -> Result<Plan, Want>
+) -> Result<Plan, NoMemory>
     requires ascend { SpansAscend 0 cuts.now len }
     requires fit { fits ≡ true → FitsIn len cuts.now }
     requires new { new_len ≡ spliced_len len cuts.now }
-    requires inside { Inside len (D.disk depot.old) }
     requires old_small { len < 2 ^ 63 }
     requires new_small { new_len < 2 ^ 63 }
     ensures can { IfOk result (λ p. CanRun p) }
-    ensures belongs { (b : List ℕ) → Holds (D.disk depot.old) b → length b ≡ len → IfOk result (λ p. Belongs p b) }
-    ensures applied { (b : List ℕ) → Holds (D.disk depot.old) b → length b ≡ len
+    ensures belongs { (b : List ℕ) → length b ≡ len → AllByRecursion (IsNamed false moves b) tables.now
+        → IfOk result (λ p. Belongs p b) }
+    ensures applied { (b : List ℕ) → length b ≡ len
         → IfOk result (λ p. IsRewrite new_len p → applied p b ≡ splice b (merged false moves b cuts.now tables.now)) }
-    ensures named { (b : List ℕ) → Holds (D.disk depot.old) b
-        → IfOk result (λ p. IsRewrite new_len p → AllByRecursion (IsNamed false moves b) tables.now) }
     ensures form { IfOk result (λ p. units.IsPlanOf fits len new_len (flat_map patch_of cuts.now) p) }
-    ensures reads { ReadsOnly (D.disk depot.old) (D.disk depot.new) }
-    ensures cause { result ≡ Err Want.Depot → Rose (D.disk depot.old).faults (D.disk depot.new).faults }
 {
     if !fits {
-        return rewrite(alloc, depot, cuts, tables, moves, false, len, new_len);
+        return rewrite(alloc, cuts, tables, moves, false, len, new_len);
     }
-    match in_place(alloc, cuts, len, new_len) {
-        Err(_) => Err(Want::Memory),
-        Ok(None) => rewrite(alloc, depot, cuts, tables, moves, false, len, new_len),
-        Ok(Some(patches)) => Ok(Plan::InPlace {
+    match in_place(alloc, cuts, len, new_len)? {
+        None => rewrite(alloc, cuts, tables, moves, false, len, new_len),
+        Some(patches) => Ok(Plan::InPlace {
             old_len: len,
             new_len,
             patches,
@@ -237,26 +210,24 @@ fn plan_cuts<D: Depot>(
 }
 
 // The plan of an edit in which each table keeps its width, by what its units come to and sizes that pass no limit.
-fn plan_sized<D: Depot>(
+fn plan_sized(
     alloc: Global,
-    depot: &mut D,
     moov: &MoovAt,
     tables: &[TableAt],
     units: Units,
+    moves: Moves,
     sizes: &Sizes,
-) -> Result<Plan, Want>
+) -> Result<Plan, NoMemory>
     requires sound { IsSoundMoov moov.now }
     requires stands { StandsIn moov.now units }
+    requires moves { GoBetween moov.now.len units.cuts.items moves }
     requires sized { IsSized moov.now units 0 sizes.now }
     requires fit { first_above (sizes_in sizes.now) ≡ None }
-    requires inside { Inside moov.now.len (D.disk depot.old) }
-    ensures plans { (b : List ℕ) (e : List EditItem) → Holds (D.disk depot.old) b
-        → IsKnown b e moov.now tables.now units → widens_by b e ≡ false → IfOk result (λ p. IsPlanOf mov_kind b e p) }
+    ensures plans { (b : List ℕ) (e : List EditItem) → IsKnown b e moov.now tables.now units → widens_by b e ≡ false
+        → AllByRecursion (IsNamed false moves b) tables.now → IfOk result (λ p. IsPlanOf mov_kind b e p) }
     ensures can { IfOk result (λ p. CanRun p) }
-    ensures belongs { (b : List ℕ) → Holds (D.disk depot.old) b → length b ≡ moov.now.len
+    ensures belongs { (b : List ℕ) → length b ≡ moov.now.len → AllByRecursion (IsNamed false moves b) tables.now
         → IfOk result (λ p. Belongs p b) }
-    ensures reads { ReadsOnly (D.disk depot.old) (D.disk depot.new) }
-    ensures cause { result ≡ Err Want.Depot → Rose (D.disk depot.old).faults (D.disk depot.new).faults }
 {
     let Units {
         cuts,
@@ -264,38 +235,28 @@ fn plan_sized<D: Depot>(
         parts: _,
         inner: _,
     } = units;
-    let moves = match moves_between(alloc, &cuts, moov.len) {
-        Err(_) => return Err(Want::Memory),
-        Ok(moves) => moves,
-    };
-    let cuts = match framed(alloc, moov, sizes.body, cuts) {
-        Err(_) => return Err(Want::Memory),
-        Ok(cuts) => cuts,
-    };
-    plan_cuts(
-        alloc, depot, &cuts, fits, tables, moves, moov.len, sizes.len,
-    )
+    let cuts = framed(alloc, moov, sizes.body, cuts)?;
+    plan_cuts(alloc, &cuts, fits, tables, moves, moov.len, sizes.len)
 }
 
 // The plan of an edit in which each table keeps its width, by what its units come to. `TooLarge` is the first of these that passes
 // its limit: the atoms, `moov`, and the file.
-fn plan_narrow<D: Depot>(
+fn plan_narrow(
     alloc: Global,
-    depot: &mut D,
     moov: &MoovAt,
     tables: &[TableAt],
     units: Units,
+    moves: Moves,
 ) -> Result<Plan, PlanFault>
     requires sound { IsSoundMoov moov.now }
     requires stands { StandsIn moov.now units }
-    requires inside { Inside moov.now.len (D.disk depot.old) }
-    ensures plans { (b : List ℕ) (e : List EditItem) → Holds (D.disk depot.old) b
-        → IsKnown b e moov.now tables.now units → widens_by b e ≡ false → PlansKind mov_kind b e result }
+    requires moves { GoBetween moov.now.len units.cuts.items moves }
+    ensures plans { (b : List ℕ) (e : List EditItem) → IsKnown b e moov.now tables.now units → widens_by b e ≡ false
+        → AllByRecursion (IsNamed false moves b) tables.now → PlansKind mov_kind b e result }
     ensures can { IfOk result (λ p. CanRun p) }
-    ensures belongs { (b : List ℕ) → Holds (D.disk depot.old) b → length b ≡ moov.now.len
+    ensures belongs { (b : List ℕ) → length b ≡ moov.now.len → AllByRecursion (IsNamed false moves b) tables.now
         → IfOk result (λ p. Belongs p b) }
-    ensures reads { ReadsOnly (D.disk depot.old) (D.disk depot.new) }
-    ensures cause { result ≡ Err PlanFault.Depot → Rose (D.disk depot.old).faults (D.disk depot.new).faults }
+    ensures cause { result ≢ Err PlanFault.Depot }
 {
     let Some(sizes) = sizes_of(moov, &units, 0) else {
         return Err(PlanFault::Memory);
@@ -304,11 +265,17 @@ fn plan_narrow<D: Depot>(
         Some(Passed { size, limit }) => return Err(PlanFault::TooLarge { size, limit }),
         None => {}
     }
-    match plan_sized(alloc, depot, moov, tables, units, &sizes) {
-        Err(Want::Depot) => Err(PlanFault::Depot),
-        Err(Want::Memory) => Err(PlanFault::Memory),
+    match plan_sized(alloc, moov, tables, units, moves, &sizes) {
+        Err(_) => Err(PlanFault::Memory),
         Ok(plan) => Ok(plan),
     }
+}
+
+// What a plan lacks: its depot failed, or there was no memory.
+#[derive(Clone, Copy, Debug, PartialEq, Eq)]
+enum Want {
+    Depot,
+    Memory,
 }
 
 // The plan of an edit in which tables are widened, by what its units come to and sizes that pass no limit: a new file.
@@ -344,7 +311,16 @@ fn plan_grown<D: Depot>(
     let Ok(all) = framed(alloc, moov, sizes.body, cuts) else {
         return Err(Want::Memory);
     };
-    rewrite(alloc, depot, &all, tables, moves, true, moov.len, sizes.len)
+    let Ok(named) = all_named(depot, &moves, tables, true, moov.len) else {
+        return Err(Want::Depot);
+    };
+    if !named {
+        return Err(Want::Memory);
+    }
+    match rewrite(alloc, &all, tables, moves, true, moov.len, sizes.len) {
+        Err(_) => Err(Want::Memory),
+        Ok(plan) => Ok(plan),
+    }
 }
 
 // The plan of an edit in which tables are widened, by what its units come to. `TooLarge` is the first of these that passes its
@@ -414,12 +390,15 @@ pub fn plan_movie<D: Depot>(
     let Ok(units) = unit_cuts(alloc, places, moov.from, moov.end, moov.behind) else {
         return Err(PlanFault::Memory);
     };
-    let wide = match widens(depot, &units.cuts, tables, moov.len) {
-        Err(_) => return Err(PlanFault::Depot),
-        Ok(wide) => wide,
+    let Ok(moves) = moves_between(alloc, &units.cuts, moov.len) else {
+        return Err(PlanFault::Memory);
     };
-    if wide {
-        return plan_wide(alloc, depot, moov, tables, holders, units);
+    let named = match all_named(depot, &moves, tables, false, moov.len) {
+        Err(_) => return Err(PlanFault::Depot),
+        Ok(named) => named,
+    };
+    if named {
+        return plan_narrow(alloc, moov, tables, units, moves);
     }
-    plan_narrow(alloc, depot, moov, tables, units)
+    plan_wide(alloc, depot, moov, tables, holders, units)
 }

@@ -1,10 +1,10 @@
 -- A header's numbers, and one step over the atoms of the bytes.
-use Rattle.std.proofs.Common.{◌≡◌, ℕ, [], ◌+◌, ◌-◌, ◌<◌, ◌≤◌, Bool, true, false, ltb, eqb, min, List, ◌++◌, length, take, drop, refl, sym, ap, ◌∙◌, arith, length-drop, length-append}
+use Rattle.std.proofs.Common.{◌≡◌, ℕ, [], ◌+◌, ◌-◌, ◌<◌, ◌≤◌, Bool, true, false, ltb, eqb, List, ◌++◌, length, take, drop, refl, sym, ap, ◌∙◌, arith, length-drop, length-append}
 use Rattle.std.proofs.lemmas.List.{drop-take, length-take, take-take}
 use Rattle.std.proofs.lemmas.Bool.{lt-ltb, ltb-false}
 use Rattle.std.specs.Int.{w32, w64, from_be_bytes, to_be_bytes}
 use Rattle.std.specs.declared.option.Option.TheVariants.{Some, None}
-use Rattle.container_model.specs.Chunk.{Form, header_bytes, Chunk, Header, full_header, too_short, no_header, past_end, pad_len, behind, chunks, stopped, ends, passes, bad_header, and_then, read}
+use Rattle.container_model.specs.Chunk.{Form, header_bytes, Chunk, full_header, too_short, no_header, past_end, pad_len, behind, chunks, stopped, passes, bad_header, and_then, read}
 use Rattle.container_model.specs.Sizes.{Level, top, inside, user, kind_at, atom_zero, atom_short, atom_long, atom_wide, atom_by, atom_ahead, atom_front}
 use Rattle.container_model.specs.Written.{slice}
 use Rattle.container_model.specs.Windows.{window}
@@ -13,8 +13,7 @@ use Rattle.container_model.proofs.Steps.{Eats, chunks_ahead, chunks_cut, chunks_
 use Rattle.qt_atoms.specs.declared.header.SizeForm.{SizeForm}
 use Rattle.qt_atoms.specs.declared.header.SizeForm.TheVariants.{Short, Long, ToEnd}
 use Rattle.qt_atoms.specs.declared.walker.AtomAt.{AtomAt}
-use Rattle.qt_atoms.specs.declared.walker.HeaderFault.TheVariants.{SizeSmall, Truncated}
-use Rattle.qt_atoms.specs.Walk.{InOrder, Stepped, Stuck, atom_in, form_of, header_len, row}
+use Rattle.qt_atoms.specs.Walk.{InOrder, Stepped, atom_in, form_of, header_len, row}
 use Rattle.qt_atoms.specs.declared.header.Head.{Head}
 use Rattle.qt_atoms.specs.Headers.{Begins, HasWide}
 

@@ -3,12 +3,13 @@ ghost use Rattle.std.specs.Prelude.{OnOk, ◌≡◌, ◌↔◌, ◌+◌, ◌^◌
 ghost use Rattle.me_disk.specs.Causes.{Rose};
 ghost use Rattle.me_disk.specs.Steps.{HasCause, ReadsOnly};
 ghost use Rattle.me_disk.specs.Holds.{Holds, Inside};
+ghost use Rattle.me_disk.specs.Windows.{IsWindow};
 ghost use Rattle.container_model.specs.Windows.{window};
 ghost use Rattle.qt_atoms.specs.Headers.{Begins, BeginsWith, HasSize, HasWide};
 ghost use Rattle.qt_atoms.specs.Walk.{InOrder, NoneLeft, Stepped, Stuck, StuckThere, level_of, place_after};
 
 use crate::header::{Extent, Head, Parent, SizeForm, extent_of, head_of};
-use me_disk::{Depot, DepotFault, Slot};
+use me_disk::{Depot, DepotFault, HeaderWindow};
 use part_tree::{FourCc, Span};
 
 /// An atom: its type, the place and the form of its header, its body, and the place where the next begins.
@@ -36,12 +37,14 @@ pub enum AtomFault {
     Depot,
 }
 
-/// Goes over the atoms that follow each other from a place up to an end, which is the end of their parent.
-#[derive(Clone, Copy, Debug)]
+/// Goes over the atoms that follow each other from a place up to an end, which is the end of their parent. Headers are read
+/// through a window of 4,096 bytes.
+#[derive(Drop)]
 pub struct AtomWalker {
     pub at: u64,
     pub end: u64,
     pub parent: Parent,
+    pub window: HeaderWindow,
     ghost in_order: { at ≤ end },
     ghost small: { end < 2 ^ 63 },
 }
@@ -54,8 +57,15 @@ impl AtomWalker {
         ensures at { result.at ≡ at }
         ensures end { result.end ≡ end }
         ensures parent { result.parent ≡ parent }
+        ensures empty { (result.window.from ≡ 0) × (result.window.len ≡ 0) }
     {
-        AtomWalker { at, end, parent }
+        let window = HeaderWindow::new();
+        AtomWalker {
+            at,
+            end,
+            parent,
+            window,
+        }
     }
 
     /// Steps over the next atom. None where fewer than eight bytes are left, and in user data where a size of 0 stands.
@@ -63,6 +73,7 @@ impl AtomWalker {
     /// passes the walker's end; the walker then stays.
     pub fn next<D: Depot>(&mut self, depot: &mut D) -> Result<Option<AtomAt>, AtomFault>
         requires inside { Inside self.old.end (D.disk depot.old) }
+        requires window { IsWindow (D.disk depot.old) self.old.window }
         ensures few { self.old.end < self.old.at + 8 → result ≡ Ok None }
         ensures none { IfOk result (λ found. IsNone found → NoneLeft self.old.parent self.old.at self.old.end) }
         ensures atom { IfOk result (λ found. IfSome found (λ atom. InOrder self.old.at self.old.end atom)) }
@@ -74,6 +85,7 @@ impl AtomWalker {
             → IfOk result (λ found. Stepped (level_of self.old.parent) b self.old.at self.old.end found) }
         ensures stuck { (b : List ℕ) → Holds (D.disk depot.old) b
             → IfErr result (λ fault. StuckThere (level_of self.old.parent) b self.old.at self.old.end fault) }
+        ensures window { IsWindow (D.disk depot.new) self.new.window }
         ensures reads { ReadsOnly (D.disk depot.old) (D.disk depot.new) }
         ensures cause { result ≡ Err AtomFault.Depot → Rose (D.disk depot.old).faults (D.disk depot.new).faults }
     {
@@ -116,13 +128,18 @@ impl AtomWalker {
     }
 
     // The first eight bytes of the next atom. None where fewer are left.
-    fn head<D: Depot>(&self, depot: &mut D) -> Result<Option<Head>, DepotFault>
-        requires inside { Inside self.now.end (D.disk depot.old) }
-        ensures few { self.now.end < self.now.at + 8 → result ≡ Ok None }
-        ensures none { IfOk result (λ found. IsNone found → self.now.end < self.now.at + 8) }
+    fn head<D: Depot>(&mut self, depot: &mut D) -> Result<Option<Head>, DepotFault>
+        requires inside { Inside self.old.end (D.disk depot.old) }
+        requires window { IsWindow (D.disk depot.old) self.old.window }
+        ensures few { self.old.end < self.old.at + 8 → result ≡ Ok None }
+        ensures none { IfOk result (λ found. IsNone found → self.old.end < self.old.at + 8) }
         ensures letters { IfOk result (λ found. IfSome found (λ head. length head.kind.0 ≡ 4)) }
         ensures front { (b : List ℕ) → Holds (D.disk depot.old) b
-            → IfOk result (λ found. BeginsWith (window b self.now.at self.now.end) found) }
+            → IfOk result (λ found. BeginsWith (window b self.old.at self.old.end) found) }
+        ensures stays { self.new.at ≡ self.old.at }
+        ensures end { self.new.end ≡ self.old.end }
+        ensures parent { self.new.parent ≡ self.old.parent }
+        ensures window { IsWindow (D.disk depot.new) self.new.window }
         ensures reads { ReadsOnly (D.disk depot.old) (D.disk depot.new) }
         ensures cause { HasCause (D.disk depot.old) (D.disk depot.new) result }
     {
@@ -130,15 +147,20 @@ impl AtomWalker {
             return Ok(None);
         }
         let mut bytes = [0u8; 8];
-        depot.read_at(Slot::Main, self.at, &mut bytes)?;
+        self.window.read_at(depot, self.at, self.end, &mut bytes)?;
         Ok(Some(head_of(&bytes)))
     }
 
     // The number in the eight bytes behind the type, where the size before it says that it is there.
-    fn wide<D: Depot>(&self, depot: &mut D, size: u32) -> Result<u64, DepotFault>
-        requires inside { Inside self.now.end (D.disk depot.old) }
+    fn wide<D: Depot>(&mut self, depot: &mut D, size: u32) -> Result<u64, DepotFault>
+        requires inside { Inside self.old.end (D.disk depot.old) }
+        requires window { IsWindow (D.disk depot.old) self.old.window }
         ensures wide { (b : List ℕ) → Holds (D.disk depot.old) b
-            → IfOk result (λ wide. size ≡ 1 → HasWide (window b self.now.at self.now.end) wide) }
+            → IfOk result (λ wide. size ≡ 1 → HasWide (window b self.old.at self.old.end) wide) }
+        ensures stays { self.new.at ≡ self.old.at }
+        ensures end { self.new.end ≡ self.old.end }
+        ensures parent { self.new.parent ≡ self.old.parent }
+        ensures window { IsWindow (D.disk depot.new) self.new.window }
         ensures reads { ReadsOnly (D.disk depot.old) (D.disk depot.new) }
         ensures cause { HasCause (D.disk depot.old) (D.disk depot.new) result }
     {
@@ -149,7 +171,8 @@ impl AtomWalker {
             return Ok(0);
         }
         let mut bytes = [0u8; 8];
-        depot.read_at(Slot::Main, self.at + 8, &mut bytes)?;
+        self.window
+            .read_at(depot, self.at + 8, self.end, &mut bytes)?;
         Ok(u64::from_be_bytes(bytes))
     }
 
@@ -163,6 +186,7 @@ impl AtomWalker {
         ensures end { self.new.end ≡ self.old.end }
         ensures parent { self.new.parent ≡ self.old.parent }
         ensures stays { OnErr result (self.new.at ≡ self.old.at) }
+        ensures window { self.new.window ≡ self.old.window }
         ensures row { (b : List ℕ) → self.old.end ≤ length b → Begins (window b self.old.at self.old.end) head
             → HasSize (window b self.old.at self.old.end) head.size wide
             → IfOk result (λ found. Stepped (level_of self.old.parent) b self.old.at self.old.end found) }

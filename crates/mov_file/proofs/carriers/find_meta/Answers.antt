@@ -8,6 +8,7 @@ use Rattle.container_model.specs.Windows.{window}
 use Rattle.mov_model.specs.Map.{Kid}
 use Rattle.qt_atoms.specs.Walk.{InOrder, Stepped, atom_in, level_of}
 use Rattle.qt_atoms.specs.declared.header.Parent.{Parent}
+use Rattle.qt_atoms.proofs.Windows.{window_stays}
 use Rattle.mov_model.specs.Keys.{is_meta}
 use Rattle.mov_file.specs.Carriers.{IsTable, kids_in, table_of}
 use Rattle.mov_file.specs.declared.carriers.Meta.{Meta}
@@ -47,6 +48,7 @@ kids-preserved g c =
       parent = c.next.ensures.parent ∙ inv.parent;
       low = omega (arith, moved, inv.low, order.body, order.behind);
       reads = ReadsOnly-trans _ _ _ (ReadsOnly-trans _ _ _ inv.reads c.next.ensures.reads) c.read_table.ensures.reads;
+      window = window_stays (g.D.Depot.disk c.next.new.depot) (g.D.Depot.disk c.read_table.new.depot) c.next.new.self.window c.read_table.ensures.reads c.next.ensures.window;
       left = λ b holds.
           let held = holds_on _ _ b inv.reads holds in
           let later = holds_on _ _ b c.next.ensures.reads held in

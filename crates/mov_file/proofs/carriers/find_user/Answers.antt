@@ -52,6 +52,7 @@ kids-preserved g c =
       parent = c.next.ensures.parent ∙ inv.parent;
       low = omega (arith, moved, inv.low, order.body, order.behind);
       reads = ReadsOnly-trans _ _ _ inv.reads c.next.ensures.reads;
+      window = c.next.ensures.window;
       left = λ b holds.
           let held = holds_on _ _ b inv.reads holds in
           let step : Stepped inside b at end (Some k) = subst (λ (x : Parent). Stepped (level_of x) b at end (Some k)) inv.parent (rw c.in-Ok-Some.field-0-is at (c.in-Ok-Some.ensures.row b held)) in

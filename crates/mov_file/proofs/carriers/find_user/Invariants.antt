@@ -1,6 +1,7 @@
 use Rattle.std.proofs.Common.{◌≡◌, ◌≤◌, ◌+◌, ◌-◌, ℕ, List}
 use Rattle.me_disk.specs.Steps.{ReadsOnly}
 use Rattle.me_disk.specs.Holds.{Holds}
+use Rattle.me_disk.specs.Windows.{IsWindow}
 use Rattle.qt_atoms.specs.declared.header.Parent.TheVariants.{Atom}
 use Rattle.qt_text.specs.User.{udta}
 use Rattle.mov_file.proofs.Carried.{KidsLeft}
@@ -13,6 +14,7 @@ invariant-kids g l = record {
   parent : l.walker.parent ≡ Atom;
   low : l.fn.span.at ≤ l.walker.at;
   reads : ReadsOnly (g.D.Depot.disk l.fn.depot) (g.D.Depot.disk l.depot);
+  window : IsWindow (g.D.Depot.disk l.depot) l.walker.window;
   left : (b : List ℕ) → Holds (g.D.Depot.disk l.fn.depot) b → KidsLeft udta.is b l.fn.span.at l.walker.at l.walker.end;
 }
 

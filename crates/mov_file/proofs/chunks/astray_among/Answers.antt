@@ -1,48 +1,50 @@
-use Rattle.std.proofs.Common.{rules, Some, arith, refl, sym, ap, ◌≡◌, ◌∙◌, ◌+◌, ◌-◌, ◌*◌, ◌≤◌, ℕ, suc, List, drop, Bool, true, false}
+use Rattle.std.proofs.Common.{rules, arith, sym, ap, ◌≡◌, ◌∙◌, ◌+◌, ◌-◌, ◌*◌, ℕ, List, length, take, drop, Option, Some, None}
 use Rattle.me_disk.proofs.Holds.{holds_on}
 use Rattle.me_disk.proofs.Runs.{ReadsOnly-trans}
-use Rattle.part_tree.specs.Ranges.{in_one}
 use Rattle.container_model.specs.Rows.{numbers}
 use Rattle.mov_file.specs.Chunks.{first_astray, width_of}
-use Rattle.mov_file.proofs.Astray.{astray_here, astray_more, room_more}
+use Rattle.mov_file.proofs.Astray.{astray_by_page, page_is, page_long, page_rows}
 use Rattle.mov_file.proofs.chunks.astray_among.Goals as goal
 
-pub returns-then-not-in_one-clause-astray : goal.returns-then-not-in_one-clause-astray
-returns-then-not-in_one-clause-astray g c = λ b holds fits.
-    let inv = c.rows.invariant in
+pub returns-in-Some-clause-astray : goal.returns-in-Some-clause-astray
+returns-in-Some-clause-astray g c = λ b holds fits.
+    let inv = c.pages.invariant in
+    let w = width_of c.args.wide in
+    let ms = c.args.mdats.now in
+    let n = c.pages.done in
+    let s = c.min-some.result in
+    let from = c.args.rows.at in
     let held = holds_on _ _ b inv.reads holds in
-    let w = width_of c.args.wide in
-    let k = c.args.count - (c.rows.row + 1) in
-    let more : c.args.count - c.rows.row ≡ suc k = omega (arith, c.rows-test.true) in
-    let apart : in_one c.args.mdats.now c.in_ok-place.place 1 ≡ false = search rules in
-    let next : c.rows.row + 1 ≡ suc c.rows.row = omega arith in
-    ap (λ (i : ℕ). Some i) next ∙ sym (inv.left b holds
-    ∙ ap (λ (i : ℕ). first_astray c.args.mdats.now (suc c.rows.row) (numbers w i (drop c.rows.at b))) more
-    ∙ astray_here c.args.mdats.now w k c.rows.at c.in_ok-place.place (suc c.rows.row) b (c.in_ok-place.ensures.place b held) apart)
+    let page = c.read_at.new.into in
+    let long : length (take (c.row_len-width.result * s) c.pages.page) ≡ w.bytes * s = page_long c.args.wide c.row_len-width.result s c.pages.page c.row_len-width.ensures.len (omega (arith, c.min-some.ensures)) c.min-some.array_long in
+    let there : from + c.row_len-width.result * c.from-in-pages.result ≡ from + w.bytes * n
+    = ap (λ (k : ℕ). from + k * c.from-in-pages.result) c.row_len-width.ensures.len ∙ ap (λ (k : ℕ). from + w.bytes * k) c.from-in-pages.ensures in
+    let is : page ≡ take (w.bytes * s) (drop (from + w.bytes * n) b)
+    = page_is page (take (c.row_len-width.result * s) c.pages.page) _ b (from + c.row_len-width.result * c.from-in-pages.result) (from + w.bytes * n) (w.bytes * s) (c.in_ok-read_at.ensures.bytes held.tells) held.bytes long there in
+    let rows : first_astray ms (n + 1) (numbers w s (drop (from + w.bytes * n) b)) ≡ first_astray ms (n + 1) (numbers w s page)
+    = ap (first_astray ms (n + 1)) (sym (page_rows c.args.wide s (from + w.bytes * n) b page is)) in
+    sym (inv.left b holds ∙ astray_by_page ms c.args.wide n s c.args.count from b (Some c.in-Some.found) (omega (arith, c.min-some.ensures, c.pages-test.true)) (rows ∙ sym c.in-Some.ensures))
 
-pub rows-preserved : goal.rows-preserved
-rows-preserved g c =
-    let inv = c.rows.invariant in
-    let w = width_of c.args.wide in
-    let len : c.row_len-width.result ≡ w.bytes = c.row_len-width.ensures.len in
-    let k = c.args.count - (c.rows.row + 1) in
-    let end = c.args.rows.at + c.args.rows.len in
-    let more : c.args.count - c.rows.row ≡ suc k = omega (arith, c.rows-test.true) in
-    let next : suc c.rows.row ≡ c.rows.row + 1 = omega arith in
+pub pages-preserved : goal.pages-preserved
+pages-preserved g c =
+    let inv = c.pages.invariant in
     record {
-      end = refl;
-      width = len;
-      place = omega (arith, c.if-end-at.false, inv.place);
-      window = c.read_row.ensures.window;
-      reads = ReadsOnly-trans _ _ _ inv.reads c.read_row.ensures.reads;
-      room = λ fits.
-          let there : c.rows.at + w.bytes * suc k ≤ end = rw (sym more) (inv.room fits) in
-          rw len (room_more c.args.wide c.rows.at end k there);
+      few = omega (arith, c.min-some.ensures, c.pages-test.true);
+      reads = ReadsOnly-trans _ _ _ inv.reads c.in_ok-read_at.ensures.reads;
       left = λ b holds.
+          let w = width_of c.args.wide in
+          let ms = c.args.mdats.now in
+          let n = c.pages.done in
+          let s = c.min-some.result in
+          let from = c.args.rows.at in
           let held = holds_on _ _ b inv.reads holds in
-          let one : in_one c.args.mdats.now c.in_ok-place.place 1 ≡ true = search rules in
-          rw len (inv.left b holds
-          ∙ ap (λ (i : ℕ). first_astray c.args.mdats.now (suc c.rows.row) (numbers w i (drop c.rows.at b))) more
-          ∙ astray_more c.args.mdats.now w k c.rows.at c.in_ok-place.place (suc c.rows.row) b (c.in_ok-place.ensures.place b held) one
-          ∙ ap (λ (i : ℕ). first_astray c.args.mdats.now (suc i) (numbers w k (drop (c.rows.at + w.bytes) b))) next);
+          let page = c.read_at.new.into in
+          let long : length (take (c.row_len-width.result * s) c.pages.page) ≡ w.bytes * s = page_long c.args.wide c.row_len-width.result s c.pages.page c.row_len-width.ensures.len (omega (arith, c.min-some.ensures)) c.min-some.array_long in
+          let there : from + c.row_len-width.result * c.from-in-pages.result ≡ from + w.bytes * n
+          = ap (λ (k : ℕ). from + k * c.from-in-pages.result) c.row_len-width.ensures.len ∙ ap (λ (k : ℕ). from + w.bytes * k) c.from-in-pages.ensures in
+          let is : page ≡ take (w.bytes * s) (drop (from + w.bytes * n) b)
+          = page_is page (take (c.row_len-width.result * s) c.pages.page) _ b (from + c.row_len-width.result * c.from-in-pages.result) (from + w.bytes * n) (w.bytes * s) (c.in_ok-read_at.ensures.bytes held.tells) held.bytes long there in
+          let rows : first_astray ms (n + 1) (numbers w s (drop (from + w.bytes * n) b)) ≡ first_astray ms (n + 1) (numbers w s page)
+          = ap (first_astray ms (n + 1)) (sym (page_rows c.args.wide s (from + w.bytes * n) b page is)) in
+          inv.left b holds ∙ astray_by_page ms c.args.wide n s c.args.count from b None (omega (arith, c.min-some.ensures, c.pages-test.true)) (rows ∙ sym c.in-None.ensures);
     }

@@ -7,7 +7,7 @@ use Rattle.mov_file.proofs.chunks.astray_in.Goals as goal
 
 pub returns-clause-astray : goal.returns-clause-astray
 returns-clause-astray g c = λ b holds has.
-    let held = holds_on _ _ b c.read_narrow.ensures.reads holds in
+    let held = holds_on _ _ b c.count_in.ensures.reads holds in
     let inside = c.requires.inside b holds in
     let count = c.in_ok-count.ensures.number b holds in
     subst (λ (x : List ℕ). IfOk c.astray_among.result (λ found. found ≡ first_astray c.args.mdats.now 1 x)) (rows_told c.args.wide b c.args.body.at c.args.body.len c.in_ok-count.count inside count (omega arith) has)

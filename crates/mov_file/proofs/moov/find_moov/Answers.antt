@@ -40,6 +40,7 @@ atoms-preserved g c =
       end = c.next.ensures.end ∙ inv.end;
       parent = c.next.ensures.parent ∙ inv.parent;
       reads = ReadsOnly-trans _ _ _ inv.reads c.next.ensures.reads;
+      window = c.next.ensures.window;
       ahead = λ b holds whole.
           let held = holds_on _ _ b inv.reads holds in
           let step : Stepped top b at end (Some k) = subst (λ (x : Parent). Stepped (level_of x) b at end (Some k)) inv.parent (rw c.in-Ok-Some.field-0-is at (c.in-Ok-Some.ensures.row b held)) in

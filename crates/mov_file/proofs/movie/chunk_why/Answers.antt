@@ -25,7 +25,6 @@ tracks-preserved g c =
     let is : t ≡ get_or ts k t = same_at ts k no_track t lt in
     record {
       number = omega (arith, inv.number);
-      window = c.astray_of.ensures.window;
       reads = ReadsOnly-trans _ _ _ inv.reads c.astray_of.ensures.reads;
       left = λ b holds places.
           let held = holds_on _ _ b inv.reads holds in

@@ -8,6 +8,7 @@ use Rattle.container_model.specs.Windows.{window}
 use Rattle.mov_file.specs.Fields.{Grows, texts_held}
 use Rattle.qt_atoms.specs.Walk.{InOrder, Stepped, atom_in, level_of, row}
 use Rattle.qt_atoms.specs.declared.header.Parent.{Parent}
+use Rattle.qt_atoms.proofs.Windows.{window_stays}
 use Rattle.mov_file.proofs.Grown.{UserLeft, user_end, user_next}
 use Rattle.mov_file.proofs.texts.take_user.Goals as goal
 
@@ -32,6 +33,7 @@ items-preserved g c =
       end = c.next.ensures.end ∙ inv.end;
       parent = c.next.ensures.parent ∙ inv.parent;
       reads = ReadsOnly-trans _ _ _ (ReadsOnly-trans _ _ _ inv.reads c.next.ensures.reads) c.take_item.ensures.reads;
+      window = window_stays (g.D.Depot.disk c.next.new.depot) (g.D.Depot.disk c.take_item.new.depot) c.next.new.self.window c.take_item.ensures.reads c.next.ensures.window;
       lawful = λ law. c.in-Ok.ensures.lawful (inv.lawful law);
       left = λ b holds.
           let held = holds_on _ _ b inv.reads holds in

@@ -1,6 +1,7 @@
 use Rattle.std.proofs.Common.{◌≡◌, ◌+◌, ◌-◌, ℕ, List}
 use Rattle.me_disk.specs.Steps.{ReadsOnly}
 use Rattle.me_disk.specs.Holds.{Holds}
+use Rattle.me_disk.specs.Windows.{IsWindow}
 use Rattle.qt_atoms.specs.declared.header.Parent.TheVariants.{UserData}
 use Rattle.mov_file.specs.Fields.{StayLawful}
 use Rattle.mov_file.proofs.Grown.{UserLeft}
@@ -12,6 +13,7 @@ invariant-items g l = record {
   end : l.walker.end ≡ l.fn.span.at + l.fn.span.len;
   parent : l.walker.parent ≡ UserData;
   reads : ReadsOnly (g.D.Depot.disk l.fn.depot) (g.D.Depot.disk l.depot);
+  window : IsWindow (g.D.Depot.disk l.depot) l.walker.window;
   lawful : StayLawful l.fn.fields l.fields;
   left : (b : List ℕ) → Holds (g.D.Depot.disk l.fn.depot) b → UserLeft b l.fn.span.at l.walker.end l.fn.fields l.fields l.walker.at;
 }

@@ -11,6 +11,7 @@ use Rattle.part_tree.specs.Parts.{rest_parts}
 use Rattle.qt_atoms.specs.Walk.{InOrder, Stepped, StuckThere, atom_in, level_of}
 use Rattle.qt_atoms.specs.declared.header.Parent.{Parent}
 use Rattle.qt_atoms.specs.declared.walker.AtomFault.TheVariants.{SizeSmall, Truncated}
+use Rattle.qt_atoms.proofs.Windows.{window_stays}
 use Rattle.part_tree.specs.declared.why.ReadFault.TheVariants as fault
 use Rattle.part_tree.specs.declared.why.Why.TheVariants as why
 use Rattle.mov_file.specs.Holder.{level_in, place_of}
@@ -137,6 +138,7 @@ walk_atoms-atoms-preserved g t c =
       few = c.in-Ok.ensures.few;
       lies = rw moved (lies_then c.args.holder c.args.span.at at k.next c.args.reading.now c.atoms.reading c.walk_atom.new.reading (omega (arith, order.body, order.behind)) inv.lies (rw order.begins at c.in-Ok.ensures.lies));
       reads = ReadsOnly-trans _ _ _ (ReadsOnly-trans _ _ _ inv.reads c.next.ensures.reads) c.walk_atom.ensures.reads;
+      window = window_stays (g.D.Depot.disk c.next.new.depot) (g.D.Depot.disk c.walk_atom.new.depot) c.next.new.self.window c.walk_atom.ensures.reads c.next.ensures.window;
       left = λ b before holds knows.
           let held = holds_on _ _ b inv.reads holds in
           let then = holds_on _ _ b c.next.ensures.reads held in

@@ -1,6 +1,7 @@
 use Rattle.std.proofs.Common.{◌≡◌, ◌+◌, ◌-◌, ◌*◌, ℕ, List}
 use Rattle.me_disk.specs.Steps.{ReadsOnly}
 use Rattle.me_disk.specs.Holds.{Holds}
+use Rattle.me_disk.specs.Windows.{IsWindow}
 use Rattle.container_model.specs.Walk.{Step}
 use Rattle.mov_model.specs.Atoms.{Place}
 use Rattle.mov_file.specs.Holder.{level_in, parent_of, place_of}
@@ -23,6 +24,7 @@ invariant-walk_atoms-atoms g l = record {
   few : Few l.reading;
   lies : LiesIn l.holder l.fn.span.at l.walker.at l.fn.reading l.reading;
   reads : ReadsOnly (g.D.Depot.disk l.fn.depot) (g.D.Depot.disk l.depot);
+  window : IsWindow (g.D.Depot.disk l.depot) l.walker.window;
   left : (b : List ℕ) (before : List (Step Place)) → Holds (g.D.Depot.disk l.fn.depot) b → Knows l.fn.reading before
       → IsLeft before (told_in l.depth (place_of l.holder) (level_in l.holder) b l.fn.span.at (l.fn.span.at + l.fn.span.len)) (told_in l.depth (place_of l.holder) (level_in l.holder) b l.walker.at l.walker.end) l.fn.reading l.reading;
 }

@@ -17,6 +17,7 @@ use Rattle.part_tree.specs.declared.why.Why.TheVariants as why
 use Rattle.qt_atoms.specs.Walk.{InOrder, Stepped, StuckThere, atom_in, level_of}
 use Rattle.qt_atoms.specs.declared.header.Parent.{Parent}
 use Rattle.qt_atoms.specs.declared.walker.AtomFault.TheVariants.{SizeSmall, Truncated}
+use Rattle.qt_atoms.proofs.Windows.{window_stays}
 use Rattle.mov_file.specs.Walked.{Remembers, Told, Walked, Walks, end_told, kid_told, moov_told}
 use Rattle.mov_file.proofs.Walks.{IsLeft, both_none, cut_refused, left_fails, left_more, left_none, moov_more, moov_stop, none_told, small_refused, step_walked, user_after}
 use Rattle.mov_file.specs.declared.holder.Holder.TheVariants.{Moov}
@@ -110,6 +111,7 @@ kids-preserved g c =
       few = c.in-Ok.ensures.few;
       lies = rw moved (lies_then Moov c.args.span.at at k.next c.args.reading.now c.kids.reading c.walk_kid.new.reading (omega (arith, order.body, order.behind)) inv.lies (rw order.begins at c.in-Ok.ensures.lies));
       reads = ReadsOnly-trans _ _ _ (ReadsOnly-trans _ _ _ inv.reads c.next.ensures.reads) c.walk_kid.ensures.reads;
+      window = window_stays (g.D.Depot.disk c.next.new.depot) (g.D.Depot.disk c.walk_kid.new.depot) c.next.new.self.window c.walk_kid.ensures.reads c.next.ensures.window;
       left = λ b before holds knows.
           let held = holds_on _ _ b inv.reads holds in
           let later = holds_on _ _ b c.next.ensures.reads held in

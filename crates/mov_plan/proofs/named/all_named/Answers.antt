@@ -13,7 +13,6 @@ tables-preserved g c =
     let i = c.tables.table-index in
     let yes : c.in_ok-table_named.field-0 ≡ true = search rules in
     record {
-      window = c.table_named.ensures.window;
       reads = ReadsOnly-trans _ _ _ inv.reads c.table_named.ensures.reads;
       left = λ b holds h.
           let held = holds_on _ _ b inv.reads holds in

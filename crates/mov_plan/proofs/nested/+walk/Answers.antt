@@ -8,6 +8,7 @@ use Rattle.container_model.proofs.Windows.{length_slice}
 use Rattle.mov_model.specs.Atoms.{Place, format}
 use Rattle.qt_atoms.specs.Walk.{InOrder, atom_in, level_of, row}
 use Rattle.qt_atoms.specs.declared.header.Parent.{Parent}
+use Rattle.qt_atoms.proofs.Windows.{window_stays}
 use Rattle.mov_plan.specs.Nested.{IsNext, Meets}
 use Rattle.mov_plan.specs.Within.{level_in, place_in}
 use Rattle.mov_plan.proofs.Nesting.{along_more, inner_met, left_more, one_met, walk_none, walk_zero}
@@ -58,6 +59,7 @@ walk_atoms-atoms-preserved g t c =
       parent = c.next_atom.ensures.parent ∙ inv.parent;
       few = omega (arith, moved, inv.few, few, order.begins);
       reads = ReadsOnly-trans _ _ _ (ReadsOnly-trans _ _ _ inv.reads c.next_atom.ensures.reads) c.walk_atom.ensures.reads;
+      window = window_stays (g.D.Depot.disk c.next_atom.new.depot) (g.D.Depot.disk c.walk_atom.new.depot) c.next_atom.new.walker.window c.walk_atom.ensures.reads c.next_atom.ensures.window;
       left = λ b holds.
           let held = holds_on _ _ b inv.reads holds in
           let later = holds_on _ _ b c.next_atom.ensures.reads held in

@@ -1,4 +1,4 @@
-use Rattle.std.proofs.Common.{arith, ap, sym, subst, ◌≡◌, ◌∙◌, ◌+◌, ◌++◌, ℕ, List, [], length, map, true, None}
+use Rattle.std.proofs.Common.{rules, arith, ap, sym, subst, ◌≡◌, ◌∙◌, ◌+◌, ◌++◌, ℕ, List, [], length, map, true, None}
 use Rattle.std.specs.Prelude.{sum_by}
 use Rattle.std.specs.List.{AllByRecursion}
 use Rattle.part_tree.specs.Plans.{Belongs, CanRun, applied}
@@ -20,7 +20,6 @@ use Rattle.mov_plan.specs.Moved.{IsKeptIn}
 use Rattle.mov_plan.specs.Tables.{merged}
 use Rattle.mov_plan.proofs.Heads.{tables_ascend, wide_mixed}
 use Rattle.mov_plan.proofs.Held.{put_each}
-use Rattle.mov_plan.proofs.Oks.{ok_all}
 use Rattle.mov_plan.proofs.Sized.{kept_all, kept_in_all, size_kept}
 use Rattle.mov_plan.proofs.Wide.{file_long, heads_lie, large_told, makes, plan_is, spans}
 use Rattle.mov_plan.proofs.Widens.{tables_lie}
@@ -63,8 +62,8 @@ returns-clause-plans g c = λ b e holds known hold wide.
     let long : s.len ≡ length (file_after b e) = file_long b e m ts u known sound stands hs wide s c.requires.sized in
     let small : large_after b e ≡ None = large_told b e m ts u known sound stands hs wide s c.requires.sized ∙ c.requires.fit in
     let ms = c.in-Ok-moves_widened.moves in
-    ok_all (λ p. Belongs p b) (λ p. applied p b ≡ splice b (merged true ms b c.deref-2.result.now ts)) (λ p. AllByRecursion (IsNamed true ms b) ts) (λ p. IsRewrite s.len p) CanRun (λ p. IsPlanOf mov_kind b e p) c.rewrite.result
-    (λ p belongs applied named form can.
-    plan_is b e wide s.len long p form belongs
-    (applied ∙ ap (λ (ks : List CutAt). splice b (merged true ms b ks ts)) all_are ∙ makes b e m ts u known sound stands hs mix wide ms moves named) small)
-    (c.rewrite.ensures.belongs b holds whole) (c.rewrite.ensures.applied b holds whole) (c.rewrite.ensures.named b holds) c.rewrite.ensures.form c.rewrite.ensures.can
+    let yes : c.in-Ok-all_named.named ≡ true = search rules in
+    let named = c.in-Ok-all_named.ensures.named b holds yes in
+    let done = c.in-Ok-rewrite.ensures in
+    plan_is b e wide s.len long c.in-Ok-rewrite.plan done.form (done.belongs b whole named)
+    (done.applied b whole ∙ ap (λ (ks : List CutAt). splice b (merged true ms b ks ts)) all_are ∙ makes b e m ts u known sound stands hs mix wide ms moves named) small

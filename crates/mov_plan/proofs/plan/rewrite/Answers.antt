@@ -1,14 +1,9 @@
-use Rattle.std.proofs.Common.{rules, arith, ◌≡◌, true}
+use Rattle.std.proofs.Common.{arith}
 use Rattle.mov_plan.proofs.plan.rewrite.Goals as goal
 
-pub returns-in-Ok-segments_with-clause-belongs : goal.returns-in-Ok-segments_with-clause-belongs
-returns-in-Ok-segments_with-clause-belongs g c = λ b holds is.
-    let yes : c.in-Ok.named ≡ true = search rules in
+pub returns-clause-belongs : goal.returns-clause-belongs
+returns-clause-belongs c = λ b is named.
     record {
-      can = record { total = c.in-Ok-segments_with.ensures.total; fits = c.requires.new_small; based = c.in-Ok-segments_with.ensures.based };
-      file = (
-        c.in-Ok-segments_with.ensures.inside b (omega (arith, is)),
-        omega (arith, is, c.requires.old_small),
-        c.in-Ok-segments_with.ensures.named c.args.moves b (c.in-Ok.ensures.named b holds yes),
-      );
+      can = record { total = c.in_ok-segments.ensures.total; fits = c.requires.new_small; based = c.in_ok-segments.ensures.based };
+      file = (c.in_ok-segments.ensures.inside b (omega (arith, is)), omega (arith, is, c.requires.old_small), c.in_ok-segments.ensures.named c.args.moves b named);
     }

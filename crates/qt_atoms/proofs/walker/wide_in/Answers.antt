@@ -1,4 +1,4 @@
-use Rattle.std.proofs.Common.{arith, rules, ◌≡◌, ◌+◌, length}
+use Rattle.std.proofs.Common.{arith, ◌≡◌, ◌+◌, length}
 use Rattle.container_model.specs.Written.{slice}
 use Rattle.qt_atoms.proofs.Steps.{wide_read}
 use Rattle.qt_atoms.proofs.walker.wide_in.Goals as goal

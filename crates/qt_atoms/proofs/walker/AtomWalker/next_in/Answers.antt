@@ -1,7 +1,5 @@
-use Rattle.std.proofs.Common.{arith, rules, ◌≡◌, ◌<◌, ◌+◌, ◌≤◌, ℕ, List, length}
-use Rattle.container_model.specs.Windows.{window}
+use Rattle.std.proofs.Common.{arith, rules}
 use Rattle.qt_atoms.specs.Walk.{level_of}
-use Rattle.qt_atoms.specs.Headers.{Begins, HasSize, HasWide}
 use Rattle.qt_atoms.proofs.Steps.{few_stepped, front_few}
 use Rattle.qt_atoms.proofs.walker.AtomWalker.next_in.Goals as goal
 

@@ -1,4 +1,4 @@
-use Rattle.std.proofs.Common.{arith, rules, refl, sym, ap, ◌∙◌, ◌≡◌, ◌+◌, ℕ, List, drop}
+use Rattle.std.proofs.Common.{arith, rules, refl, sym, ap, ◌∙◌, ◌+◌, ℕ, List, drop}
 use Rattle.container_model.specs.Chunk.{full_header}
 use Rattle.container_model.specs.Windows.{window}
 use Rattle.container_model.proofs.Windows.{length-window}
