@@ -19,7 +19,7 @@ use Rattle.avi_model.specs.Why.{why_named}
 use Rattle.avi_model.proofs.NamesExact.{names_exact}
 use Rattle.avi_file.specs.Map.{IsMapOf}
 use Rattle.avi_file.specs.declared.map.AviMap.{AviMap}
-use Rattle.avi_file.proofs.Homes.{AllHome, AtHome, top_home}
+use Rattle.avi_model.proofs.Homes.{AllHome, AtHome, top_home}
 use Rattle.edit_planner.specs.Avi.{TellsForm}
 use Rattle.edit_planner.specs.Stand.{StandFrom, StandsAt, parts_from}
 use Rattle.edit_planner.specs.Tops.{IsRiff, avi_role, first_len, head_from, others, tops}

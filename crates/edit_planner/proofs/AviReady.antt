@@ -1,11 +1,12 @@
 -- An edit of an AVI file of which every item has an effect, and that breaks no basic rule.
-use Rattle.std.proofs.Common.{◌≡◌, ◌∙◌, ℕ, zero, suc, ◌<◌, ◌≤◌, ◌+◌, ◌-◌, ◌^◌, Bool, true, false, List, [], ◌∷◌, ◌++◌, length, map, refl, sym, ap, subst, arith}
+use Rattle.std.proofs.Common.{◌≡◌, ◌∙◌, ℕ, suc, ◌<◌, ◌≤◌, ◌+◌, ◌-◌, ◌^◌, Bool, true, false, List, [], ◌∷◌, ◌++◌, length, map, refl, sym, ap, subst, arith}
 use Rattle.std.proofs.Math.Path.{fun_ext}
-use Rattle.std.specs.Prelude.{IsTrue, Some, None, Option, min, ◌&&◌, ◌==◌, codes, if◌then◌else◌, nat_lt}
+use Rattle.std.specs.Prelude.{IsTrue, Some, None, Option, min, not, ◌&&◌, codes, if◌then◌else◌, nat_lt}
 use Rattle.std.specs.declared.result.Result.TheVariants.{Err}
-use Rattle.std.specs.List.{flat_map, AllByRecursion}
+use Rattle.std.specs.List.{flat_map, AllByRecursion, cons_option, filter_map}
 use Rattle.std.proofs.lemmas.List.{length-append, length-map}
-use Rattle.me_bytes.specs.Bytes.{IsBytes}
+use Rattle.part_tree.specs.declared.field.Change.{Change}
+use Rattle.part_tree.specs.declared.field.Change.TheVariants.{Set, Remove}
 use Rattle.part_tree.specs.declared.field.EditItem.{EditItem}
 use Rattle.part_tree.specs.declared.field.FieldName.{FieldName}
 use Rattle.part_tree.specs.declared.field.FieldName.TheVariants.{Bext, Info, Whole, User, Key, Stream}
@@ -20,14 +21,16 @@ use Rattle.field_model.specs.Broken.{broken}
 use Rattle.field_model.specs.Fields.{FieldMap}
 use Rattle.field_model.specs.Kind.{IsAccepted}
 use Rattle.field_model.specs.KindReads.{Declines}
-use Rattle.field_model.specs.Update.{RawItem, raw_items}
+use Rattle.field_model.specs.KindFacts.{has_field}
+use Rattle.field_model.specs.Update.{RawItem, effective, raw_change, raw_item, raw_items}
+use Rattle.field_model.proofs.Kept.{Kept, base_kept}
 use Rattle.bext_fields.specs.Change.{raw_items_of}
 use Rattle.bext_fields.specs.declared.change.RawChange.{RawChange}
 use Rattle.core_edit.specs.Edits.{AreOfFields}
 use Rattle.container_model.specs.Chunk.{Chunk, spell}
 use Rattle.container_model.specs.Items.{is_nil}
 use Rattle.container_model.specs.Stood.{Stood, bare, first_of, only, stood}
-use Rattle.container_model.specs.Units.{Cell, live, shut, units}
+use Rattle.container_model.specs.Units.{live}
 use Rattle.carrier_model.specs.Info.{info, info_items, is_padding, is_type, list_run, one_of}
 use Rattle.carrier_model.specs.Lists.{lists_act}
 use Rattle.carrier_model.specs.RiffForm.{ends_file}
@@ -40,9 +43,10 @@ use Rattle.avi_model.specs.Named.{cell_by, is_hdrl, riff_of}
 use Rattle.avi_model.specs.NewFile.{Items, home}
 use Rattle.avi_model.specs.Support.{Supported, count_kids}
 use Rattle.avi_model.proofs.AfterFields.{AreAvi, IsAviName, items_give}
+use Rattle.avi_model.proofs.JoinedParts.{kids_both}
 use Rattle.avi_file.specs.Map.{IsMapOf}
 use Rattle.avi_file.specs.declared.map.AviMap.{AviMap}
-use Rattle.wave_model.specs.Fields.{bodies, body_in, is_info}
+use Rattle.wave_model.specs.Fields.{body_in, is_info}
 use Rattle.wave_model.proofs.Cells.{view_laid}
 use Rattle.wave_model.proofs.New.{ignores_info}
 use Rattle.edit_planner.specs.declared.head.Head.{Head}
@@ -91,10 +95,6 @@ only_fewer p (x ∷ xs) = go (p x.chunk) (only_fewer p xs)
     go true h = omega (arith, h)
     go false h = omega (arith, h)
 
-count_both : (xs ys : List Stood) → count_kids (xs ++ ys) ≡ count_kids xs + count_kids ys
-count_both [] ys = omega arith
-count_both (x ∷ xs) ys = omega (arith, count_both xs ys)
-
 streams_few : (b : List ℕ) → Supported b → length (strls (avi_of b)) ≤ 65536
 streams_few b s =
     let a = avi_of b in
@@ -103,7 +103,7 @@ streams_few b s =
       s.few_parts,
       only_fewer (is_type (codes "strl")) (flat_map kids (hdrls a)),
       kids_long (hdrls a),
-      count_both (hdrls a) (strls a ++ Rattle.avi_model.specs.Support.infos a),
+      kids_both (hdrls a) (strls a ++ Rattle.avi_model.specs.Support.infos a),
     )
 
 -- ---- the edit
@@ -144,16 +144,30 @@ busy_by streams (r ∷ rs) some avi names = go r.name r.value avi.0.0 names.0
     go (Key id) value h f = absurd h
     go (Stream n) value h f = and_no (is_nil (info_edit rs))
 
-pub some_by : (n : ℕ) (t : Bool) → t ≡ (n == 0) → t ≡ false → 0 < n
-some_by zero t e f = let none : true ≡ false = sym e ∙ f in absurd cc
-some_by (suc n) t e f = omega arith
+-- each item is one in raw bytes
+raw_one : (streams : ℕ) (name : FieldName) (change : Change) (rs : List RawItem) → not (has_field Avi streams name) ≡ false → length (cons_option (raw_change name change) rs) ≡ suc (length rs)
+raw_one streams (Bext field) change rs h = absurd cc
+raw_one streams (Whole id) change rs h = absurd cc
+raw_one streams (User id) change rs h = absurd cc
+raw_one streams (Key name) change rs h = absurd cc
+raw_one streams (Info id) (Set text) rs h = refl
+raw_one streams (Info id) Remove rs h = refl
+raw_one streams (Stream n) (Set text) rs h = refl
+raw_one streams (Stream n) Remove rs h = refl
 
-pub is_busy : (b : List ℕ) (e : List EditItem) (cs xs : List RawChange) → IsAccepted avi_kind b e → raw_items_of xs ≡ raw_items (all_fields b) e → AreOfFields (raw_items_of cs) → xs ≡ cs → 0 < length cs → is_idle (all_changes b e) ≡ false
-is_busy b e cs xs ok is names same some =
-    let rs = raw_items (all_fields b) e in
-    let here : raw_items_of cs ≡ rs = ap raw_items_of (sym same) ∙ is in
-    let long : length rs ≡ length cs = ap (λ (ys : List RawItem). length ys) (sym here) ∙ length-map cs Rattle.bext_fields.specs.Change.raw_item_of in
-    busy_by (length (strls (avi_of b))) rs (omega (arith, long, some)) (items_give (length (strls (avi_of b))) (all_fields b) e ok).names (subst AreOfFields here names)
+raw_all : (streams : ℕ) (es : List EditItem) → AllByRecursion (Kept Avi streams) es → length (filter_map raw_item es) ≡ length es
+raw_all streams [] k = refl
+raw_all streams (i ∷ es) k = raw_one streams i.name i.change (filter_map raw_item es) k.0.field ∙ ap suc (raw_all streams es k.1)
+
+pub is_busy : (b : List ℕ) (m : AviMap) (e : List EditItem) (cs xs : List RawChange) → IsMapOf b m → IsReady Avi (min (length m.streams.items) (2 ^ 32 - 1)) (values m.fields) e → raw_items_of xs ≡ raw_items (all_fields b) e → AreOfFields (raw_items_of cs) → xs ≡ cs
+    → is_idle (all_changes b e) ≡ false
+is_busy b m e cs xs h ready is names same =
+    let streams = length (strls (avi_of b)) in
+    let f = all_fields b in
+    let ok = is_accepted b m e h ready in
+    let all : length (raw_items f e) ≡ length e
+    = raw_all streams (effective f e) (base_kept Avi streams f e ok) ∙ ap (λ (es : List EditItem). length es) (ap (λ (g : FieldMap). effective g e) (sym (same_fields b m h)) ∙ ready.changes_all) in
+    busy_by streams (raw_items f e) (omega (arith, all, ready.changes_some)) (items_give streams f e ok).names (subst AreOfFields (ap raw_items_of (sym same) ∙ is) names)
 
 -- ---- how long the lists become
 

@@ -23,7 +23,7 @@ use Rattle.avi_model.specs.Avi.{avi_of, but_first, first_body, form_of, forms, h
 use Rattle.avi_model.specs.Map.{form_parts, further_parts, further_role, inside_parts, item_role, kid_parts, list_rest, part, parts_of, plain_parts, role_where, stream_parts, stream_role, top_parts, top_role}
 use Rattle.avi_model.specs.Named.{is_hdrl, is_strl}
 use Rattle.avi_model.specs.Support.{Supported, count_kids}
-use Rattle.avi_file.proofs.Homes.{FirstIs, first_is, row_length}
+use Rattle.avi_model.proofs.Homes.{FirstIs, first_is, row_length}
 use Rattle.wave_model.specs.Fields.{is_info}
 use Rattle.edit_planner.specs.Stand.{parts_from}
 use Rattle.edit_planner.specs.Tops.{avi_role, begins, is_listed, is_rest, others, plain_part, plain_role, stands_apart, tops}

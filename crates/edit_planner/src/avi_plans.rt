@@ -114,7 +114,8 @@ fn named<D: Depot>(
 }
 
 /// The plan of an edit of an AVI file whose map this is, where each item has an effect on the fields of the map and they break no
-/// basic rule. In place exactly where the edit has room there, and else a new file with every index moved.
+/// basic rule. In place exactly where the edit has room there, and else a new file with every index moved. `TooLarge` is the first
+/// size of the new file that passes its limit; `Depot` only where the count of the depot's faults rose.
 pub fn plan_avi<D: Depot>(
     alloc: Global,
     depot: &mut D,
@@ -134,9 +135,6 @@ pub fn plan_avi<D: Depot>(
         Err(_) => return Err(PlanFault::Memory),
         Ok(changes) => changes,
     };
-    if changes.is_empty() {
-        return Err(PlanFault::Memory);
-    }
     let form = match read_form(alloc, depot, avi) {
         Err(LoadFault::Depot) => return Err(PlanFault::Depot),
         Err(LoadFault::Memory) => return Err(PlanFault::Memory),

@@ -61,7 +61,9 @@ fn of_avi(map: AviMap) -> FileMap
     FileMap::Avi(map)
 }
 
-// The map of an AVI file. Its streams are parts, of which it has at most 65,536; so their number is never past 32 bits.
+// The map of an AVI file. Its streams are parts, of which it has at most 65,536; so their number is never past 32 bits. It has a
+// window of 64 KiB on its stack, which the reading of other kinds needn't have on theirs.
+#[inline(never)]
 fn read_listed<D: Depot>(alloc: Global, depot: &mut D) -> Result<FileMap, ReadFault>
     requires { (o : List ℕ) → Holds (D.disk depot.old) o → kind_at o ≡ Some Kind.Avi }
     ensures file { (o : List ℕ) → Holds (D.disk depot.old) o → ReadsKind (model_in o) Maps o result }
@@ -88,7 +90,8 @@ fn of_mov(map: MovMap) -> FileMap
     FileMap::Mov(map)
 }
 
-// The map of a movie.
+// The map of a movie. It has a page of rows on its stack, which the reading of other kinds needn't have on theirs.
+#[inline(never)]
 fn read_movie<D: Depot>(alloc: Global, depot: &mut D) -> Result<FileMap, ReadFault>
     requires { (o : List ℕ) → Holds (D.disk depot.old) o → kind_at o ≡ Some Kind.Mov }
     ensures file { (o : List ℕ) → Holds (D.disk depot.old) o → ReadsKind (model_in o) Maps o result }

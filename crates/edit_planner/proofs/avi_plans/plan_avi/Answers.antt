@@ -1,14 +1,11 @@
-use Rattle.std.proofs.Common.{◌≡◌, ◌∙◌, ◌<◌, ap, arith, length, map, subst, sym, List, ℕ}
+use Rattle.std.proofs.Common.{◌≡◌, ◌∙◌, ap, map, subst, sym, List}
 use Rattle.me_disk.specs.Holds.{Holds}
 use Rattle.me_disk.proofs.Holds.{holds_on}
 use Rattle.part_tree.specs.Fields.{values}
 use Rattle.part_tree.specs.declared.plan.PlanFault.{PlanFault}
 use Rattle.field_model.specs.KindReads.{Declines}
-use Rattle.bext_fields.specs.Change.{raw_items_of}
-use Rattle.bext_fields.specs.declared.change.RawChange.{RawChange}
 use Rattle.field_model.specs.Update.{RawItem}
 use Rattle.unit_plan.specs.Places.{shape_in}
-use Rattle.unit_plan.specs.declared.place.Place.{Place}
 use Rattle.avi_model.specs.After.{all_changes, changed_by}
 use Rattle.avi_model.specs.Avi.{avi_of}
 use Rattle.avi_model.specs.Kind.{avi_kind}
@@ -16,11 +13,10 @@ use Rattle.avi_model.specs.Named.{Names}
 use Rattle.avi_model.specs.NewFile.{Items, new_cells}
 use Rattle.avi_model.proofs.NamesExact.{names_exact}
 use Rattle.avi_plan.specs.Tables.{AreTables}
-use Rattle.avi_plan.specs.declared.table.TableAt.{TableAt}
 use Rattle.avi_plan.specs.Row.{told_row}
 use Rattle.avi_plan.specs.NamesAt.{AreNames}
 use Rattle.avi_plan.proofs.Listed.{list_passes}
-use Rattle.edit_planner.proofs.AviReady.{declined, is_accepted, is_busy, items_are, listed, some_by}
+use Rattle.edit_planner.proofs.AviReady.{declined, is_accepted, is_busy, items_are, listed}
 use Rattle.edit_planner.proofs.Ready.{holds_back}
 use Rattle.edit_planner.proofs.avi_plans.plan_avi.Goals as goal
 
@@ -38,7 +34,7 @@ returns-in-Err-avi_places-clause-plans g c = λ b holds bytes.
     let two : Holds (g.D.Depot.disk c.named.new.depot) b = holds_on (g.D.Depot.disk c.read_form.new.depot) (g.D.Depot.disk c.named.new.depot) b c.in-Ok-named.ensures.reads one in
     let told = c.in-Ok-read_form.ensures.tells b holds in
     let ok = is_accepted b m e known c.requires.ready in
-    let busy = is_busy b e c.in-Ok.changes.items c.deref.result.now ok is c.in-Ok.ensures.names c.deref.ensures.value (omega (arith, c.deref.ensures.len, ap (λ (ys : List RawChange). length ys) c.deref.ensures.value, some_by c.in-Ok.changes.len c.is_empty.result c.is_empty.ensures c.if-is_empty.false)) in
+    let busy = is_busy b m e c.in-Ok.changes.items c.deref.result.now known c.requires.ready is c.in-Ok.ensures.names c.deref.ensures.value in
     let places = c.in-Err-avi_places.ensures.places b two bytes told in
     let infos = ap (λ (rs : List RawItem). (changed_by rs).infos) two_is in
     subst (λ (f : PlanFault). Declines avi_kind b e f) (sym c.placeless.ensures)
@@ -62,7 +58,7 @@ returns-clause-plans g c = λ b holds bytes.
     let now : Holds (g.D.Depot.disk c.avi_places.new.depot) b = holds_on (g.D.Depot.disk c.named.new.depot) (g.D.Depot.disk c.avi_places.new.depot) b c.in-Ok-avi_places.ensures.reads two in
     let told = c.in-Ok-read_form.ensures.tells b holds in
     let ok = is_accepted b m e known c.requires.ready in
-    let busy = is_busy b e c.in-Ok.changes.items c.deref.result.now ok is c.in-Ok.ensures.names c.deref.ensures.value (omega (arith, c.deref.ensures.len, ap (λ (ys : List RawChange). length ys) c.deref.ensures.value, some_by c.in-Ok.changes.len c.is_empty.result c.is_empty.ensures c.if-is_empty.false)) in
+    let busy = is_busy b m e c.in-Ok.changes.items c.deref.result.now known c.requires.ready is c.in-Ok.ensures.names c.deref.ensures.value in
     let names = subst (λ (x : Names). AreNames b x c.in-Ok-named.names) (ap (λ (rs : List RawItem). (changed_by rs).names) is) (c.in-Ok-named.ensures.names b one bytes) in
     let places = c.in-Ok-avi_places.ensures.places b two bytes told in
     let infos = ap (λ (rs : List RawItem). (changed_by rs).infos) two_is in
