@@ -1,7 +1,7 @@
 // Worked batches: one edit of many files, each on its own depot, and what it is to tell, print and leave.
-ghost use Rattle.std.specs.Prelude.{◌≡◌, ℕ, Ok, IfOk, IsTrue, length, true};
-ghost use Rattle.me_disk.specs.Memory.{memory_disk};
-ghost use Rattle.metaedit_top.specs.Batch.{AllOne};
+ghost use Rattle.std.specs.Prelude.{◌≡◌, ◌<◌, ℕ, Ok, IfOk, IsTrue, get_or, length, true};
+ghost use Rattle.me_disk.specs.Memory.{Memory, memory_disk};
+ghost use Rattle.metaedit_top.specs.Run.{OneImage};
 ghost use Rattle.metaedit_top.specs.BatchWords.{batch_files as files_in, is_batch as asks_for_batch};
 
 use crate::rows::Held;
@@ -106,7 +106,8 @@ impl<'a> BatchRow<'a> {
 
 /// A depot for each file.
 pub fn depots_of(alloc: Global, files: &[BatchFile<'_>]) -> Result<Vec<MemoryDepot>, NoMemory>
-    ensures { IfOk result (λ depots. AllOne memory_disk depots.items) }
+    ensures { IfOk result (λ depots. (i : ℕ) (d : Memory) → i < length depots.items
+        → OneImage (memory_disk (get_or depots.items i d))) }
 {
     let mut depots = Vec::new(alloc);
     for file in files {
@@ -136,9 +137,7 @@ pub fn batch_on<D: Depot>(
     depots: &mut [D],
     out: &mut MemorySink,
     rounds: Option<u64>,
-) -> Option<BatchOutcome>
-    requires { AllOne D.disk depots.old }
-{
+) -> Option<BatchOutcome> {
     if is_batch(words) && fits(words, depots.len()) {
         Some(metaedit_batch(alloc, words, depots, out, rounds))
     } else {

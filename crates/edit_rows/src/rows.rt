@@ -99,6 +99,13 @@ impl<'a> Row<'a> {
     }
 }
 
+/// Whether the run goes as the row says.
+pub fn is_row(alloc: Global, row: &Row<'_>) -> Result<bool, NoMemory> {
+    let mut depot = depot_of(alloc, row.before.main, row.before.journal, &[])?;
+    let ran = run_told(alloc, row.words, &mut depot)?;
+    Ok(is_told(alloc, &ran, row)? && is_left(&depot, row))
+}
+
 /// Whether the run answers this and goes as the row says.
 pub fn goes(alloc: Global, row: &Row<'_>, outcome: &Outcome) -> Result<bool, NoMemory> {
     let mut depot = depot_of(alloc, row.before.main, row.before.journal, &[])?;

@@ -1,8 +1,9 @@
 // Runs of the editor over a depot in memory.
 ghost use Rattle.std.specs.Prelude.{◌≡◌, ◌↔◌, IfOk, IsTrue, None, Some, [], map, option_copied};
-ghost use Rattle.me_disk.specs.Disk.{Image, Only, held, read_as};
+ghost use Rattle.me_disk.specs.Disk.{Image, held};
 ghost use Rattle.me_disk.specs.Memory.{items_of, memory_disk};
 ghost use Rattle.metaedit_top.specs.Answered.{MayStandOf};
+ghost use Rattle.metaedit_top.specs.Run.{OneImage};
 
 use me_disk::{Depot, FailAt, MemoryDepot, MemorySink, MemorySource, Room, Slot};
 use metaedit_top::{Outcome, Word, metaedit};
@@ -40,7 +41,7 @@ pub fn depot_of(
 ) -> Result<MemoryDepot, NoMemory>
     ensures slots { IfOk result (λ d. (memory_disk d).slots
         ≡ record { main = option_copied main.entry; journal = option_copied journal.entry; work = None }) }
-    ensures only { IfOk result (λ d. Only (read_as (memory_disk d).slots) (memory_disk d)) }
+    ensures only { IfOk result (λ d. OneImage (memory_disk d)) }
 {
     let main = owned(alloc, main)?;
     let journal = owned(alloc, journal)?;
@@ -72,8 +73,7 @@ pub fn run_by<D: Depot>(
     depot: &mut D,
     out: &mut MemorySink,
 ) -> Outcome
-    requires { Only (read_as (D.disk depot.old).slots) (D.disk depot.old) }
-    ensures { (i : Image) → (D.disk depot.new).since (D.disk depot.old).clock i
+    ensures { OneImage (D.disk depot.old) → (i : Image) → (D.disk depot.new).since (D.disk depot.old).clock i
         → MayStandOf words.now (Some table.old.left) (D.disk depot.old) i }
 {
     metaedit(alloc, words, depot, table, out)
@@ -86,8 +86,7 @@ pub fn run_on<D: Depot>(
     depot: &mut D,
     out: &mut MemorySink,
 ) -> Outcome
-    requires { Only (read_as (D.disk depot.old).slots) (D.disk depot.old) }
-    ensures { (i : Image) → (D.disk depot.new).since (D.disk depot.old).clock i
+    ensures { OneImage (D.disk depot.old) → (i : Image) → (D.disk depot.new).since (D.disk depot.old).clock i
         → MayStandOf words.now (Some []) (D.disk depot.old) i }
 {
     let mut table = MemorySource::new(Vec::new(alloc), Vec::new(alloc));
@@ -103,8 +102,7 @@ pub struct Ran {
 
 /// A run whose words are these texts.
 pub fn run_told<D: Depot>(alloc: Global, texts: &[&str], depot: &mut D) -> Result<Ran, NoMemory>
-    requires { Only (read_as (D.disk depot.old).slots) (D.disk depot.old) }
-    ensures { (i : Image) → (D.disk depot.new).since (D.disk depot.old).clock i
+    ensures { OneImage (D.disk depot.old) → (i : Image) → (D.disk depot.new).since (D.disk depot.old).clock i
         → MayStandOf (map (λ text. text.now) texts.now) (Some []) (D.disk depot.old) i }
 {
     let words = words_of(alloc, texts)?;

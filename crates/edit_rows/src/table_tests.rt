@@ -1,6 +1,6 @@
 // Worked runs with tables.
 use crate::files::{PLAIN, TITLED};
-use crate::tables::{TableRow, goes_by};
+use crate::tables::{TableRow, goes_by, stops_at_the_table};
 use std::process::Abort;
 use std::test::Fail;
 
@@ -124,6 +124,7 @@ fn a_table_that_cannot_be_read_is_told(rt: HostRuntime) -> Result<(), Fail> {
     let row = TableRow::refused(CSV, HI, PLAIN, 10, "refused 10 TableReadFault\n");
     for call in 1..3 {
         assert!(rt; goes_by(rt.alloc(), &row, &[call])?);
+        assert!(rt; stops_at_the_table(rt.alloc(), &row, &[call])?);
     }
     Ok(())
 }

@@ -1,8 +1,9 @@
 // Worked rows: a run with a table, and what it is to answer, print and leave.
 use crate::files::PLAIN;
 use crate::runs::{depot_of, holds, paper, run_by, words_of};
-use me_disk::MemorySource;
-use metaedit_top::{code, line_of};
+use crate::stops::stop;
+use me_disk::{Depot, MemorySource};
+use metaedit_top::{Outcome, code, line_of};
 use part_tree::NoMemory;
 use std::alloc::Global;
 
@@ -61,6 +62,22 @@ impl<'a> TableRow<'a> {
             after: file,
         }
     }
+}
+
+/// Whether the run ends at its table without a call of the device, where these reads of the table fail.
+pub fn stops_at_the_table(
+    alloc: Global,
+    row: &TableRow<'_>,
+    failing: &[u64],
+) -> Result<bool, NoMemory> {
+    let words = words_of(alloc, row.words)?;
+    let bytes = row.table.to_vec(alloc)?;
+    let mut table = MemorySource::new(bytes, failing.to_vec(alloc)?);
+    let mut depot = depot_of(alloc, Some(row.before), None, &[])?;
+    stop(&mut depot, 0);
+    let mut out = paper(alloc, &[])?;
+    let outcome = run_by(alloc, &words, &mut table, &mut depot, &mut out);
+    Ok(outcome == Outcome::TableReadFault && depot.faults() == 0)
 }
 
 /// Whether the run goes as the row says, where these reads of the table fail.

@@ -1,7 +1,7 @@
 // Worked runs, by what each shows.
 use crate::files::{
-    CHECKED, DATED, EMPTY, EMPTY_TITLED, FRAMES, JOURNAL, LARGE, LARGE_TITLED, LOUD, MOVIE,
-    NUMBERED, ODD, ODD_TITLED, PLAIN, RENAMED, SHORT, TITLED, TITLES, VERSION_AT, described,
+    CHECKED, DATED, EMPTY, EMPTY_TITLED, FRAMES, JOURNAL, LARGE, LARGE_TITLED, LOUD, LOUD_JOURNAL,
+    MOVIE, NUMBERED, ODD, ODD_TITLED, PLAIN, RENAMED, SHORT, TITLED, TITLES, VERSION_AT, described,
     with_bext,
 };
 use crate::rows::{Held, Row, goes};
@@ -10,7 +10,7 @@ use crate::sparse::{
     FULL_WIDENED, HELLO, HI, ROOMY_WIDENED, WIDE_SOUND, cut_and_lengthened, five_gigabytes,
     full_wave, has_len, narrow_wave, roomy_wave, shows,
 };
-use crate::stops::{NO_EDIT, RECOVER, calls_of, plain, survives, survives_twice, tells_the_fault};
+use crate::stops::{Edit, NO_EDIT, RECOVER, calls_of, survives_fault};
 use me_disk::FailAt;
 use metaedit_top::{Outcome, Summary, UsageFault, Why};
 use part_tree::{BextField, Broken, FieldName, FourCc};
@@ -351,45 +351,60 @@ fn an_edit_that_breaks_a_rule_is_refused(rt: HostRuntime) -> Result<(), Fail> {
     )
 }
 
+// Also where the output would fail, which is never come to.
 #[test]
 fn a_device_that_fails_leaves_the_file(rt: HostRuntime) -> Result<(), Fail> {
     let failing = FailAt {
         call: 3,
         done: false,
     };
-    let mut depot = depot_of(rt.alloc(), Some(PLAIN), None, &[failing])?;
-    let ran = run_told(rt.alloc(), TITLE, &mut depot)?;
-    assert!(rt; ran.outcome == Outcome::DepotFault { faults: 1 });
-    assert!(rt; ran.out.written().is_empty());
-    assert!(rt; holds(&depot, Some(PLAIN), None));
+    for writes in [&[] as &[u64], &[1]] {
+        let words = words_of(rt.alloc(), TITLE)?;
+        let mut depot = depot_of(rt.alloc(), Some(PLAIN), None, &[failing])?;
+        let mut out = paper(rt.alloc(), writes)?;
+        let outcome = run_on(rt.alloc(), &words, &mut depot, &mut out);
+        assert!(rt; outcome == Outcome::DepotFault { faults: 1 });
+        assert!(rt; out.written().is_empty());
+        assert!(rt; holds(&depot, Some(PLAIN), None));
+    }
     Ok(())
 }
 
-// Whatever call fails, the run tells a device fault, and no want of memory.
-fn check_faults(rt: &(impl Abort + AllocGlobal), texts: &[&str]) -> Result<(), Fail> {
-    let calls = calls_of(rt.alloc(), texts)?;
-    assert!(rt; 3 < calls);
-    for call in 0..calls {
-        assert!(rt; tells_the_fault(rt.alloc(), texts, call + 1)?);
+// Whatever call of a run that edits nothing fails, it tells a device fault, and no want of memory.
+fn check_faults(rt: &(impl Abort + AllocGlobal), words: &[&str]) -> Result<(), Fail> {
+    let run = Edit {
+        words,
+        before: PLAIN,
+        after: PLAIN,
+        behind: 0,
+        bytes: 0,
+    };
+    let calls = calls_of(rt.alloc(), &run)?;
+    assert!(rt; 3 < calls && calls < 100);
+    for call in 1..calls + 1 {
+        for done in [false, true] {
+            assert!(rt; survives_fault(rt.alloc(), &run, FailAt { call, done }, 0, PLAIN)?);
+        }
     }
     Ok(())
 }
 
 #[test]
 fn each_call_that_fails_is_told(rt: HostRuntime) -> Result<(), Fail> {
-    check_faults(&rt, TITLE)?;
     check_faults(&rt, &["md5", "f.wav"])?;
     check_faults(&rt, &["show", "f.wav"])
 }
 
 #[test]
 fn an_output_that_fails_leaves_the_new_file(rt: HostRuntime) -> Result<(), Fail> {
-    let words = words_of(rt.alloc(), TITLE)?;
-    let mut depot = plain(rt.alloc())?;
-    let mut out = paper(rt.alloc(), &[1])?;
-    let outcome = run_on(rt.alloc(), &words, &mut depot, &mut out);
-    assert!(rt; outcome == Outcome::OutFault { edited: true });
-    assert!(rt; holds(&depot, Some(TITLED), None));
+    for (file, edited) in [(PLAIN, true), (TITLED, false)] {
+        let words = words_of(rt.alloc(), TITLE)?;
+        let mut depot = depot_of(rt.alloc(), Some(file), None, &[])?;
+        let mut out = paper(rt.alloc(), &[1])?;
+        let outcome = run_on(rt.alloc(), &words, &mut depot, &mut out);
+        assert!(rt; outcome == Outcome::OutFault { edited });
+        assert!(rt; holds(&depot, Some(TITLED), None));
+    }
     Ok(())
 }
 
@@ -400,6 +415,20 @@ fn a_journal_is_redone(rt: HostRuntime) -> Result<(), Fail> {
         journal: Some(JOURNAL),
     };
     let row = Row::leaving(RECOVER, PLAIN, "recovered redone\n", TITLED, 28);
+    assert!(rt; goes(rt.alloc(), &Row { before, ..row }, &Outcome::Done(NO_EDIT))?);
+    Ok(())
+}
+
+// A run in a journal is written out.
+#[test]
+fn a_journal_with_runs_is_redone(rt: HostRuntime) -> Result<(), Fail> {
+    let main = with_bext(rt.alloc(), 0, &[])?;
+    let after = with_bext(rt.alloc(), VERSION_AT, LOUD)?;
+    let before = Held {
+        main: Some(&main),
+        journal: Some(LOUD_JOURNAL),
+    };
+    let row = Row::leaving(RECOVER, &main, "recovered redone\n", &after, 610);
     assert!(rt; goes(rt.alloc(), &Row { before, ..row }, &Outcome::Done(NO_EDIT))?);
     Ok(())
 }
@@ -434,67 +463,6 @@ fn a_recovery_needs_a_file(rt: HostRuntime) -> Result<(), Fail> {
         ..row
     };
     assert!(rt; goes(rt.alloc(), &row, &Outcome::NoFile)?);
-    Ok(())
-}
-
-// The last call of a rewrite puts the new file in place of the old one.
-#[test]
-fn a_rewrite_stopped_anywhere_leaves_the_old_file_or_the_new(rt: HostRuntime) -> Result<(), Fail> {
-    let item = described(rt.alloc(), 256)?;
-    let words = ["set", "f.wav", item.as_str()];
-    let new = with_bext(rt.alloc(), 0, &[b'x'; 256])?;
-    let calls = calls_of(rt.alloc(), &words)?;
-    assert!(rt; calls < 100);
-    for n in 0..calls + 1 {
-        let want: &[u8] = if n < calls { PLAIN } else { &new };
-        for k in 0..613 {
-            assert!(rt; survives(rt.alloc(), &words, n, k, want)?);
-        }
-    }
-    Ok(())
-}
-
-// The last eight calls of an edit in place are those that write; from the fourth of them on the journal stands.
-#[test]
-fn an_edit_in_place_stopped_anywhere_is_recovered(rt: HostRuntime) -> Result<(), Fail> {
-    let calls = calls_of(rt.alloc(), TITLE)?;
-    assert!(rt; 8 < calls && calls < 100);
-    for n in 0..calls + 1 {
-        let want = if n + 4 < calls { PLAIN } else { TITLED };
-        for k in 0..31 {
-            assert!(rt; survives(rt.alloc(), TITLE, n, k, want)?);
-        }
-    }
-    Ok(())
-}
-
-// The k-th crash after n calls of the edit in place is recovered, also where the recovery is stopped after each of its calls, or
-// within it.
-fn check_twice(
-    rt: &(impl Abort + AllocGlobal),
-    first: (u64, u64),
-    ways: u64,
-    want: &[u8],
-) -> Result<(), Fail> {
-    for m in 0..20 {
-        for again in 0..ways {
-            assert!(rt; survives_twice(rt.alloc(), TITLE, first, (m, again), want)?);
-        }
-    }
-    Ok(())
-}
-
-#[test]
-fn a_stopped_recovery_is_taken_up_again(rt: HostRuntime) -> Result<(), Fail> {
-    let calls = calls_of(rt.alloc(), TITLE)?;
-    assert!(rt; 8 < calls && calls < 100);
-    for n in calls - 5..calls + 1 {
-        let want = if n + 4 < calls { PLAIN } else { TITLED };
-        for k in 0..31 {
-            check_twice(&rt, (n, k), 3, want)?;
-        }
-        check_twice(&rt, (n, 0), 31, want)?;
-    }
     Ok(())
 }
 

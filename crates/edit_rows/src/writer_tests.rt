@@ -1,7 +1,5 @@
 // Runs whose report goes to a writer of std that takes little at a time.
 ghost use Rattle.std.specs.Prelude.{◌≡◌, IfOk, length};
-ghost use Rattle.me_disk.specs.Disk.{Only, read_as};
-ghost use Rattle.me_disk.specs.Memory.{memory_disk};
 
 use crate::files::{PLAIN, TITLED};
 use crate::runs::{holds, words_of};
@@ -82,9 +80,7 @@ fn run_to(
     texts: &[&str],
     depot: &mut MemoryDepot,
     writer: &mut Grudging,
-) -> Result<Outcome, NoMemory>
-    requires { Only (read_as (memory_disk depot.old).slots) (memory_disk depot.old) }
-{
+) -> Result<Outcome, NoMemory> {
     let words = words_of(alloc, texts)?;
     let mut table = MemorySource::new(Vec::new(alloc), Vec::new(alloc));
     let mut out = StdSink::new(writer);

@@ -5,6 +5,6 @@ use Rattle.edit_journal.specs.Settled.{Settles}
 use Rattle.edit_rows.proofs.stops.stopped.Goals as goal
 
 pub returns-clause-stands : goal.returns-clause-stands
-returns-clause-stands c tells f stood bytes =
-    c.run_told.ensures (read_as (memory_disk c.reopen.result).slots) (counts_now _ _ _ _ c.reopen.ensures.image) tells f
+returns-clause-stands c one tells f stood bytes =
+    c.run_told.ensures (c.stop.ensures.only one) (read_as (memory_disk c.reopen.result).slots) (counts_now _ _ _ _ c.reopen.ensures.image) tells f
     (subst (λ (s : Slots). Settles f (read_as s)) (sym c.stop.ensures.slots) stood) bytes
