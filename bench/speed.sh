@@ -86,7 +86,7 @@ while [ $k -lt "$rounds" ]; do
     edit rewrite $((k * 2000)) rewrite # more letters than there is room
 done
 echo "rewrite: $(seconds rewrite)"
-echo "    plain copy: $(seconds copy), ratio $(ratio rewrite copy) (goal 1.15)"
+echo "    plain copy: $(seconds copy), ratio $(ratio rewrite copy) (goal 1.10)"
 echo "    $rounds runs of each in turn"
 [ "$(tail -c $essence f.wav | cksum)" = "$sound" ] || wrong 'another sound'
 
@@ -109,7 +109,7 @@ if known md5; then
     done
     grep -qx "computed $(tail -c $essence f.wav | md5sum | cut -d ' ' -f 1)" printed || wrong "$(cat printed)"
     echo "md5: $(seconds md5)"
-    echo "    md5sum: $(seconds md5sum), ratio $(ratio md5 md5sum)"
+    echo "    md5sum: $(seconds md5sum), ratio $(ratio md5 md5sum) (goal 1.15)"
 fi
 if known batch; then
     # 1,000 files of 4 KiB of sound with room for the title
